@@ -1,0 +1,80 @@
+-- What is left to look at answers for the whole. Assumes nothing.
+use Rattle.stations.proofs.Others.{some-here, some-on, some-end}
+use Rattle.stations.specs.Table.{live}
+use Rattle.stations.specs.Steps.{anyOther}
+use native.Mathlib.Omega.{arith}
+use lib.ListN.{drop}
+use mathlib.Core.Path.{_≡_, refl, sym, _∙_}
+use Prim.Native.Nat.{_≤_, _-_}
+use borrow.Author.Needs.{needs}
+use Rattle.stations.proofs.displace.is_held.Statement.{statement}
+use Rattle.stations.proofs.displace.is_held.Tie as tie
+
+abbrev Inv-loop : tie.InvT-loop
+Inv-loop p t n i₀ i = (i ≤ n) × (anyOther p (live t) ≡ anyOther p (drop i (live t)))
+
+abbrev μ-loop : tie.MeasureT-loop
+μ-loop p t n i₀ i = n - i
+
+loop-holds : tie.Need-loop-holds Inv-loop μ-loop
+loop-holds c = search needs
+
+mul-side : tie.Need-mul-side Inv-loop μ-loop
+mul-side c = search needs
+
+element-copy-out-side : tie.Need-element-copy-out-side Inv-loop μ-loop
+element-copy-out-side c = search needs
+
+mul-side-2 : tie.Need-mul-side-2 Inv-loop μ-loop
+mul-side-2 c = search needs
+
+element-copy-out-side-2 : tie.Need-element-copy-out-side-2 Inv-loop μ-loop
+element-copy-out-side-2 c = search needs
+
+side-requires : tie.Need-side-requires Inv-loop μ-loop
+side-requires c κs = search needs
+
+mul-is-other : tie.Need-mul-is-other Inv-loop μ-loop
+mul-is-other c = search needs
+
+element-copy-out-is-other : tie.Need-element-copy-out-is-other Inv-loop μ-loop
+element-copy-out-is-other c = search needs
+
+is-other-requires : tie.Need-is-other-requires Inv-loop μ-loop
+is-other-requires c κs = search needs
+
+returns : tie.Need-returns Inv-loop μ-loop
+returns c = some-here (c .before .before .before .before .before .pre) _ _ _ (c .before .before .before .loop-test .taken) (c .before .before .before .before .loop .inv .1) (sym (rw (c .before .before .side .ensures) at (c .before .is-other .ensures)) ∙ (c .if1 .taken))
+
+add-i : tie.Need-add-i Inv-loop μ-loop
+add-i c = search needs
+
+loop-less : tie.Need-loop-less Inv-loop μ-loop
+loop-less c = search needs
+
+loop-again : tie.Need-loop-again Inv-loop μ-loop
+loop-again c = (search needs, some-on (c .before .before .before .before .before .pre) _ _ _ (c .before .before .before .loop-test .taken) (c .before .before .before .before .loop .inv .1) (sym (rw (c .before .before .side .ensures) at (c .before .is-other .ensures)) ∙ (c .if1 .left)))
+
+returns-2 : tie.Need-returns-2 Inv-loop μ-loop
+returns-2 c = some-end (c .before .before .pre) _ _ (c .loop-test .left) (c .before .loop .inv .0) (c .before .loop .inv .1)
+
+pub is-held-spec : {M : Type 1} → statement M
+is-held-spec =
+    tie.close
+    (tie.spec
+    Inv-loop
+    μ-loop
+    loop-holds
+    mul-side
+    element-copy-out-side
+    mul-side-2
+    element-copy-out-side-2
+    side-requires
+    mul-is-other
+    element-copy-out-is-other
+    is-other-requires
+    returns
+    add-i
+    loop-less
+    loop-again
+    returns-2)

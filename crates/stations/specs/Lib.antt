@@ -1,0 +1,6 @@
+pub mod Station
+pub mod Stations
+pub mod Hearing
+pub mod Table
+pub mod Kept
+pub mod Steps
