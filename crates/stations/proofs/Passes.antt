@@ -9,7 +9,7 @@ use native.Mathlib.Omega.{arith}
 use lib.ListN.{length, take, drop, getD, set, replicate, length-append, length-replicate, replicate-append-replicate}
 use lib.Seq.{drop-cons, drop-append-seam, getD-at, set-at, set-set, set-comm, append-snoc, take-suc, take-length}
 use Rattle.stations.specs.Station.{Station}
-use Rattle.stations.specs.Stations.{sifted}
+use Rattle.stations.specs.Stations.{capacity, sifted}
 use Rattle.stations.specs.Table.{Table, TableKept, blank, live, tableOf}
 use Rattle.stations.proofs.Sifting.{sifted-append}
 use Rattle.stations.proofs.Tables.{live-long, places-are, places-long, place-is, table-is}
@@ -93,9 +93,9 @@ module _ (k : Station → Bool) (m : Station → Station) (l p g : List Station)
       }
 
 passed-all : (k : Station → Bool) (m : Station → Station) (l g : List Station) (j i : ℕ)
-    → Pass k m l (l ++ replicate (63 - length l) blank) g j i → i ≡ length l → length l ≤ 63 → g ≡ sifted k m l ++ replicate (63 - j) blank
+    → Pass k m l (l ++ replicate (capacity - length l) blank) g j i → i ≡ length l → length l ≤ capacity → g ≡ sifted k m l ++ replicate (capacity - j) blank
 passed-all k m l g j i at e few =
-    let n : length l - j + (63 - length l) ≡ 63 - j = omega (arith, at .low) in
+    let n : length l - j + (capacity - length l) ≡ capacity - j = omega (arith, at .low) in
     at .is ∙ rw (e, take-length, drop-append-seam, append-assoc, replicate-append-replicate, n)
 
 -- The pass over a table that is kept: its end, and its turns.
@@ -105,7 +105,7 @@ pass-end {t} k m g j i kept at e =
     let l : List Station = live t in
     let ll : length l ≡ t .count = live-long kept in
     let here : i ≡ length l = omega (arith, at .high) in
-    let at′ : Pass k m l (l ++ replicate (63 - length l) blank) g j i =
+    let at′ : Pass k m l (l ++ replicate (capacity - length l) blank) g j i =
     subst (λ (q : List Station). Pass k m l q g j i) (places-are kept) at in
     table-is (sifted k m l) g j (sym (at .kept ∙ rw (here, take-length))) (passed-all k m l g j i at′ here (omega (arith, kept .few)))
 

@@ -4,12 +4,12 @@ use crate::station::Station;
 use crate::table::Table;
 ghost use mathlib.Core.Path.{_≡_};
 ghost use Prim.Native.Nat.{_<_, _≤_};
-ghost use Rattle.stations.specs.Stations.{inserted};
+ghost use Rattle.stations.specs.Stations.{capacity, inserted};
 ghost use Rattle.stations.specs.Table.{TableKept, live, tableOf};
 ghost use Rattle.stations.specs.Steps.{insertedAt};
 
 fn insert_at(mut t: Table, at: usize, s: Station) -> Table
-    requires { ⌜ TableKept t × (t .count < 63) × (at ≤ t .count) ⌝ }
+    requires { ⌜ TableKept t × (t .count < capacity) × (at ≤ t .count) ⌝ }
     ensures { λ r. ⌜ r ≡ tableOf (insertedAt at s (live t)) ⌝ }
 {
     let n = t.count;
@@ -25,7 +25,7 @@ fn insert_at(mut t: Table, at: usize, s: Station) -> Table
 }
 
 pub fn insert_station(t: Table, s: Station) -> Table
-    requires { ⌜ TableKept t × (t .count < 63) ⌝ }
+    requires { ⌜ TableKept t × (t .count < capacity) ⌝ }
     ensures { λ r. ⌜ r ≡ tableOf (inserted s (live t)) ⌝ }
 {
     let at = rank(t, s.address);

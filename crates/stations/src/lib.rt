@@ -13,11 +13,14 @@ mod table;
 
 pub use age::raise_ages;
 pub use find::Found;
+pub use find::attributes_at;
 pub use find::find_station;
+pub use find::hop_at;
 pub use give::give_attributes;
 pub use hear::Hearing;
 pub use hear::hear_report;
 pub use purge::purge_ringlet;
 pub use station::Report;
 pub use station::Station;
+pub use station::side;
 pub use table::Table;

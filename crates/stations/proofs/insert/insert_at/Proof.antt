@@ -1,4 +1,5 @@
 -- The free place moves down from the end; the places without it do not change. Assumes nothing.
+use Rattle.stations.specs.Stations.{capacity}
 use Rattle.stations.proofs.Shifts.{down-step, down-end}
 use Rattle.stations.proofs.Tables.{places-long}
 use native.Mathlib.Omega.{arith}
@@ -11,7 +12,7 @@ use Rattle.stations.proofs.insert.insert_at.Statement.{statement}
 use Rattle.stations.proofs.insert.insert_at.Tie as tie
 
 abbrev Inv-loop : tie.InvT-loop
-Inv-loop at s t₀ n i₀ t i = (at ≤ i) × ((i ≤ n) × ((length (t .places) ≡ 63) × (take i (t .places) ++ drop (i + 1) (t .places) ≡ take n (t₀ .places) ++ drop (n + 1) (t₀ .places))))
+Inv-loop at s t₀ n i₀ t i = (at ≤ i) × ((i ≤ n) × ((length (t .places) ≡ capacity) × (take i (t .places) ++ drop (i + 1) (t .places) ≡ take n (t₀ .places) ++ drop (n + 1) (t₀ .places))))
 
 abbrev μ-loop : tie.MeasureT-loop
 μ-loop at s t₀ n i₀ t i = i

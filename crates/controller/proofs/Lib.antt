@@ -1,0 +1,10 @@
+pub mod Bodies
+pub mod ReadKept
+pub mod Handled
+pub mod Holding
+pub mod Reports
+pub mod Nodes
+pub mod Examples
+pub mod Judging
+pub mod Sweeping
+pub mod Records

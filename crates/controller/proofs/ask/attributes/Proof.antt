@@ -1,0 +1,43 @@
+-- The station found is the one of the address, or there is none. Assumes nothing.
+use mathlib.Core.Path.{_≡_, sym, _∙_}
+use Rattle.stations.specs.Table.{live}
+use Rattle.stations.proofs.Places.{found-none, found-stands}
+use Rattle.controller.specs.Node.{asked}
+use borrow.Author.Needs.{needs}
+use Rattle.controller.proofs.ask.attributes.Statement.{statement}
+use Rattle.controller.proofs.ask.attributes.Tie as tie
+
+find-station-requires : tie.Need-find-station-requires
+find-station-requires c κs = search needs
+
+enum-told : tie.Need-enum-told
+enum-told c = search needs
+
+enum-known-f : tie.Need-enum-known-f
+enum-known-f c = search needs
+
+attributes-at-requires : tie.Need-attributes-at-requires
+attributes-at-requires c κs = (c .before .before .before .before .pre .table)
+
+shown-of-requires : tie.Need-shown-of-requires
+shown-of-requires c κs = search needs
+
+returns : tie.Need-returns
+unfolding asked
+returns c = rw (found-none (c .before .before .before .args .address) (live ((c .before .before .before .args .n) .table)) (sym (c .before .before .find-station .ensures) ∙ (c .enum-told .given .1)) .attributes)
+
+returns-2 : tie.Need-returns-2
+unfolding asked
+returns-2 c = rw ((c .shown-of .ensures), (c .before .attributes-at .ensures), found-stands (c .before .before .before .before .before .before .args .address) (live ((c .before .before .before .before .before .before .args .n) .table)) _ (sym (c .before .before .before .before .before .find-station .ensures) ∙ (c .before .before .before .f .given .1)) .attributes)
+
+pub attributes-spec : {M : Type 1} → statement M
+attributes-spec =
+    tie.close
+    (tie.spec
+    find-station-requires
+    enum-told
+    enum-known-f
+    attributes-at-requires
+    shown-of-requires
+    returns
+    returns-2)

@@ -1,0 +1,61 @@
+-- The three answers of the reader are the three meanings of a block. Assumes nothing.
+use mathlib.Core.Path.{_≡_, sym, _∙_, ap}
+use Rattle.blocks.specs.Types.{knows}
+use Rattle.blocks.specs.Meaning.{meaning, blockAt}
+use Rattle.stations.specs.Table.{live, hearingOf}
+use Rattle.controller.proofs.Judging.{taking-malformed, taking-aside, taking-values}
+use borrow.Author.Needs.{needs}
+use Rattle.controller.proofs.judge.read_in.Statement.{statement}
+use Rattle.controller.proofs.judge.read_in.Tie as tie
+
+read-block-requires : tie.Need-read-block-requires
+read-block-requires c κs = search needs
+
+enum-told : tie.Need-enum-told
+enum-told c = search needs
+
+same-requires : tie.Need-same-requires
+same-requires c κs = search needs
+
+enum-known-read : tie.Need-enum-known-read
+enum-known-read c = search needs
+
+behind-with-requires : tie.Need-behind-with-requires
+behind-with-requires c κs = search needs
+
+give-requires : tie.Need-give-requires
+give-requires c κs = search needs
+
+enum-known-read-2 : tie.Need-enum-known-read-2
+enum-known-read-2 c = search needs
+
+give-requires-2 : tie.Need-give-requires-2
+give-requires-2 c κs = search needs
+
+returns : tie.Need-returns
+unfolding blockAt
+returns c = (c .same .ensures) ∙ ap hearingOf (sym (taking-malformed (c .before .before .before .before .before .args .address) (live (c .before .before .before .before .before .args .table)) (meaning (knows (c .before .before .before .before .before .args .level)) ((c .before .before .before .before .before .args .block) .now)) (sym (c .before .before .before .read-block .ensures) ∙ (c .before .enum-told .given .1))))
+
+returns-2 : tie.Need-returns-2
+unfolding blockAt
+returns-2 c = (c .give .ensures) ∙ rw (c .before .behind-with .ensures) (ap hearingOf (sym (taking-aside (c .before .before .before .before .before .before .before .args .address) (live (c .before .before .before .before .before .before .before .args .table)) (meaning (knows (c .before .before .before .before .before .before .before .args .level)) ((c .before .before .before .before .before .before .before .args .block) .now)) _ (sym (c .before .before .before .before .before .read-block .ensures) ∙ (c .before .before .before .read .given .1)))))
+
+returns-3 : tie.Need-returns-3
+unfolding blockAt
+returns-3 c = (c .give2 .ensures) ∙ ap hearingOf (sym (taking-values (c .before .before .before .before .before .before .args .address) (live (c .before .before .before .before .before .before .args .table)) (meaning (knows (c .before .before .before .before .before .before .args .level)) ((c .before .before .before .before .before .before .args .block) .now)) _ _ _ _ (sym (c .before .before .before .before .read-block .ensures) ∙ (c .before .before .read2 .given .1))))
+
+pub read-in-spec : {M : Type 1} → statement M
+read-in-spec =
+    tie.close
+    (tie.spec
+    read-block-requires
+    enum-told
+    same-requires
+    enum-known-read
+    behind-with-requires
+    give-requires
+    enum-known-read-2
+    give-requires-2
+    returns
+    returns-2
+    returns-3)

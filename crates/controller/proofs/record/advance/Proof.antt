@@ -1,0 +1,64 @@
+-- Each step is known by its equation; the law puts them together, refused, with a report and without. Assumes nothing.
+use mathlib.Core.Path.{_≡_, sym, _∙_}
+use Rattle.settings.specs.Ticks.{ticksOf}
+use Rattle.controller.proofs.Records.{forget-fits, judged-table, refused, written, silent}
+use borrow.Author.Needs.{needs}
+use Rattle.controller.proofs.record.advance.Statement.{statement}
+use Rattle.controller.proofs.record.advance.Tie as tie
+
+ticks-requires : tie.Need-ticks-requires
+ticks-requires c κs = search needs
+
+act-requires : tie.Need-act-requires
+act-requires c κs = search needs
+
+judge-requires : tie.Need-judge-requires
+judge-requires c κs = ((c .before .before .before .before .before .pre .0) .table, rw (c .act .ensures) (c .before .ticks .ensures), forget-fits (c .before .before .before .before .before .args .n) (c .before .before .before .before .before .pre .0) (c .before .before .before .before .before .args .r) ((c .before .before .before .before .before .args .block) .now) (c .before .ticks .ensures))
+
+is-refusal-requires : tie.Need-is-refusal-requires
+is-refusal-requires c κs = search needs
+
+returns : tie.Need-returns
+returns c = refused (c .before .before .before .before .before .before .before .before .args .n) (c .before .before .before .before .before .before .before .before .pre .0) (c .before .before .before .before .before .before .before .before .args .r) ((c .before .before .before .before .before .before .before .before .args .block) .now) (c .before .before .before .before .ticks .ensures) (c .before .before .before .act .ensures) (c .before .before .judge .ensures) (sym (c .before .is-refusal .ensures) ∙ (c .if1 .taken)) ((c .before .before .before .before .before .before .before .before .args .out) .now)
+
+settle-requires : tie.Need-settle-requires
+settle-requires c κs = search needs
+
+is-tick-requires : tie.Need-is-tick-requires
+is-tick-requires c κs = search needs
+
+pace-requires : tie.Need-pace-requires
+pace-requires c κs = search needs
+
+sweep-requires : tie.Need-sweep-requires
+sweep-requires c κs = judged-table (c .before .before .before .before .before .before .before .before .before .before .before .args .n) (c .before .before .before .before .before .before .before .before .before .before .before .pre .0) (c .before .before .before .before .before .before .before .before .before .before .before .args .r) ((c .before .before .before .before .before .before .before .before .before .before .before .args .block) .now) (c .before .before .before .before .before .before .before .ticks .ensures) (c .before .before .before .before .before .before .act .ensures) (c .before .before .before .before .before .judge .ensures) (c .before .before .before .before .before .before .before .before .before .before .before .pre .1) (λ i. (c .before .before .before .before .before .before .before .before .before .before .shared-slice-known .given) i .fits)
+
+send-requires : tie.Need-send-requires
+send-requires c κs = search needs
+
+same-length : tie.Need-same-length
+same-length c = search needs
+
+returns-2 : tie.Need-returns-2
+returns-2 c = written (c .before .before .before .before .before .before .before .before .before .before .before .before .before .before .before .before .before .before .args .n) (c .before .before .before .before .before .before .before .before .before .before .before .before .before .before .before .before .before .before .pre .0) (c .before .before .before .before .before .before .before .before .before .before .before .before .before .before .before .before .before .before .args .r) ((c .before .before .before .before .before .before .before .before .before .before .before .before .before .before .before .before .before .before .args .block) .now) (c .before .before .before .before .before .before .before .before .before .before .before .before .before .before .ticks .ensures) (c .before .before .before .before .before .before .before .before .before .before .before .before .before .act .ensures) (c .before .before .before .before .before .before .before .before .before .before .before .before .judge .ensures) (sym (c .before .before .before .before .before .before .before .before .before .before .before .is-refusal .ensures) ∙ (c .before .before .before .before .before .before .before .before .before .before .if1 .left)) (c .before .before .before .before .before .before .before .before .before .settle .ensures) (c .before .before .before .before .before .before .before .before .is-tick .ensures) (c .before .before .before .before .before .before .before .pace .ensures) (c .before .before .before .before .before .before .sweep .ensures) ((c .before .before .before .before .before .before .before .before .before .before .before .before .before .before .before .before .before .before .args .out) .now) _ (c .before .before .before .before .if2 .taken) (c .before .before .send .ensures)
+
+returns-3 : tie.Need-returns-3
+returns-3 c = silent (c .before .before .before .before .before .before .before .before .before .before .before .before .before .before .args .n) (c .before .before .before .before .before .before .before .before .before .before .before .before .before .before .pre .0) (c .before .before .before .before .before .before .before .before .before .before .before .before .before .before .args .r) ((c .before .before .before .before .before .before .before .before .before .before .before .before .before .before .args .block) .now) (c .before .before .before .before .before .before .before .before .before .before .ticks .ensures) (c .before .before .before .before .before .before .before .before .before .act .ensures) (c .before .before .before .before .before .before .before .before .judge .ensures) (sym (c .before .before .before .before .before .before .before .is-refusal .ensures) ∙ (c .before .before .before .before .before .before .if1 .left)) (c .before .before .before .before .before .settle .ensures) (c .before .before .before .before .is-tick .ensures) (c .before .before .before .pace .ensures) (c .before .before .sweep .ensures) ((c .before .before .before .before .before .before .before .before .before .before .before .before .before .before .args .out) .now) (c .if2 .left)
+
+pub advance-spec : {M : Type 1} → statement M
+advance-spec =
+    tie.close
+    (tie.spec
+    ticks-requires
+    act-requires
+    judge-requires
+    is-refusal-requires
+    returns
+    settle-requires
+    is-tick-requires
+    pace-requires
+    sweep-requires
+    send-requires
+    same-length
+    returns-2
+    returns-3)

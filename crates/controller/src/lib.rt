@@ -1,0 +1,24 @@
+// The controller of a vault node: start, one record at a time, and what may be asked between records.
+// Follows 01, sections Records, Numbers returned for a record and The way to a station.
+// Stands on wire, settings, spans, pacer, blocks, stations and ways.
+mod act;
+mod ask;
+mod close;
+mod judge;
+mod node;
+mod reading;
+mod record;
+
+pub use ask::Shown;
+pub use ask::attributes;
+pub use ask::east_request;
+pub use ask::own_sequence;
+pub use ask::station_count;
+pub use ask::steer;
+pub use ask::west_request;
+pub use node::Core;
+pub use node::Node;
+pub use node::Started;
+pub use node::start;
+pub use record::Answer;
+pub use record::take_record;

@@ -1,0 +1,24 @@
+-- A store keeps the length of the line. Assumes nothing.
+use lib.ListN.{length-set}
+use native.Mathlib.Omega.{arith}
+use borrow.Author.Needs.{needs}
+use Rattle.drill.proofs.line.put.Statement.{statement}
+use Rattle.drill.proofs.line.put.Tie as tie
+
+slice-write-line : tie.Need-slice-write-line
+slice-write-line c = search needs
+
+add-result : tie.Need-add-result
+add-result c = search needs
+
+same-length : tie.Need-same-length
+same-length c = search needs
+
+returns : tie.Need-returns
+returns c = simp length-set (omega arith)
+
+returns-2 : tie.Need-returns-2
+returns-2 c = search needs
+
+pub put-spec : {M : Type 1} → statement M
+put-spec = tie.close (tie.spec slice-write-line add-result same-length returns returns-2)

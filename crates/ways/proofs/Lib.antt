@@ -1,0 +1,6 @@
+pub mod Slots
+pub mod Walking
+pub mod Sides
+pub mod Choosing
+pub mod Opening
+pub mod Examples

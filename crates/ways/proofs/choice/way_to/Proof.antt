@@ -1,0 +1,51 @@
+-- The station found gives both hops; each direction is looked at, and the choice is between the two. Assumes nothing.
+use Rattle.stations.specs.Table.{live}
+use Rattle.ways.proofs.Sides.{way-unknown, way-known}
+use borrow.Author.Needs.{needs}
+use Rattle.ways.proofs.choice.way_to.Statement.{statement}
+use Rattle.ways.proofs.choice.way_to.Tie as tie
+
+find-station-requires : tie.Need-find-station-requires
+find-station-requires c κs = search needs
+
+enum-told : tie.Need-enum-told
+enum-told c = search needs
+
+enum-known-f : tie.Need-enum-known-f
+enum-known-f c = search needs
+
+hop-at-requires : tie.Need-hop-at-requires
+hop-at-requires c κs = search needs
+
+hop-at-requires-2 : tie.Need-hop-at-requires-2
+hop-at-requires-2 c κs = search needs
+
+look-requires : tie.Need-look-requires
+look-requires c κs = search needs
+
+look-requires-2 : tie.Need-look-requires-2
+look-requires-2 c κs = search needs
+
+choose-requires : tie.Need-choose-requires
+choose-requires c κs = search needs
+
+returns : tie.Need-returns
+returns c = way-unknown (c .before .before .before .args .west) (c .before .before .before .args .east) (c .before .before .before .args .address) (live (c .before .before .before .args .t)) (c .before .before .find-station .ensures) (c .enum-told .given .1)
+
+returns-2 : tie.Need-returns-2
+returns-2 c = way-known (c .before .before .before .before .before .before .before .before .before .args .west) (c .before .before .before .before .before .before .before .before .before .args .east) (c .before .before .before .before .before .before .before .before .before .args .address) (live (c .before .before .before .before .before .before .before .before .before .args .t)) (c .before .before .before .before .before .before .before .before .find-station .ensures) (c .before .before .before .before .before .before .f .given .1) (c .before .before .before .before .hop-at .ensures) (c .before .before .before .hop-at2 .ensures) (c .before .before .look .ensures) (c .before .look2 .ensures) (c .choose .ensures)
+
+pub way-to-spec : {M : Type 1} → statement M
+way-to-spec =
+    tie.close
+    (tie.spec
+    find-station-requires
+    enum-told
+    enum-known-f
+    hop-at-requires
+    hop-at-requires-2
+    look-requires
+    look-requires-2
+    choose-requires
+    returns
+    returns-2)
