@@ -14,7 +14,7 @@ pub struct Closed {
     pub wrote: bool,
 }
 
-pub fn is_tick(r: Reading) -> bool
+pub(crate) fn is_tick(r: Reading) -> bool
     ensures { λ b. ⌜ b ≡ isTick r ⌝ }
 {
     match r {
@@ -35,7 +35,7 @@ pub fn is_tick(r: Reading) -> bool
 }
 
 // The WTR step of both spans: `before` is the small part as the record found it.
-pub fn settle(mut c: Core, before: Core, t: Ticks) -> Core
+pub(crate) fn settle(mut c: Core, before: Core, t: Ticks) -> Core
     ensures { λ r. ⌜ r ≡ withSpans (settled t (spansIn before) (spansIn c)) c ⌝ }
 {
     let west = spans::wait(c.west, spans::automatic(before.west, t), t);
@@ -46,7 +46,7 @@ pub fn settle(mut c: Core, before: Core, t: Ticks) -> Core
 }
 
 // The last step: the own pair of requests, and the report.
-pub fn pace(mut c: Core, t: Ticks, tick: bool) -> Closed
+pub(crate) fn pace(mut c: Core, t: Ticks, tick: bool) -> Closed
     ensures { λ r. ⌜ r ≡ pacedIn t tick c ⌝ }
 {
     let west = spans::request(c.west, t);

@@ -105,7 +105,7 @@ fn forget(table: Table, t: Ticks) -> Hearing
 }
 
 // The result, and the stations after a record's handler.
-pub fn judge(table: Table, c: Core, t: Ticks, r: Reading, block: &[u8]) -> Hearing
+pub(crate) fn judge(table: Table, c: Core, t: Ticks, r: Reading, block: &[u8]) -> Hearing
     requires { ⌜ TableKept table × (t ≡ ticksOf (c .settings)) × (t .forget < 2 ^ 16) ⌝ }
     ensures { λ h. ⌜ h ≡ hearingOf (judged (choiceOf (c .settings)) r (now (block .entry)) (spansIn c) (live table)) ⌝ }
 {

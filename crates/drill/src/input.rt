@@ -5,7 +5,7 @@ ghost use Prim.Native.Nat.{_≤_};
 ghost use lib.ListN.{length};
 
 // Reads a record to the front of the buffer and answers where it ends; 0 where nothing is left, 1 where it is cut or its length is wrong.
-pub fn read_record(buf: &mut [u8]) -> usize
+pub(crate) fn read_record(buf: &mut [u8]) -> usize
     requires { ⌜ length (now buf) ≡ 1035 ⌝ }
     ensures { λ r. ⌜ r ≤ length (now (buf .exit)) ⌝ }
 {

@@ -42,7 +42,7 @@ fn put_number(line: &mut [u8], at: usize, n: u64, b: u8) -> usize
 }
 
 // Refused settings: the word and the number.
-pub fn print_settings(result: u8) {
+pub(crate) fn print_settings(result: u8) {
     let mut space = [0u8; 64];
     tell_settings(&mut space, result);
 }
@@ -54,7 +54,7 @@ fn tell_settings(line: &mut [u8], result: u8) {
 }
 
 // A number and a refusal, for what never comes to the controller.
-pub fn print_refused(number: u64, result: u8) {
+pub(crate) fn print_refused(number: u64, result: u8) {
     let mut space = [0u8; 64];
     tell_refused(&mut space, number, result);
 }
@@ -66,7 +66,7 @@ fn tell_refused(line: &mut [u8], number: u64, result: u8) {
 }
 
 // A question: number, the word way, reply.
-pub fn print_way(number: u64, reply: u8) {
+pub(crate) fn print_way(number: u64, reply: u8) {
     let mut space = [0u8; 64];
     tell_way(&mut space, number, reply);
 }
@@ -88,7 +88,7 @@ pub struct Told {
 }
 
 // A record: number, result, west request, east request, own sequence, stations, 1 if a report was written else 0.
-pub fn print_record(number: u64, result: u8, n: Node, wrote: bool)
+pub(crate) fn print_record(number: u64, result: u8, n: Node, wrote: bool)
     requires { ⌜ Kept n ⌝ }
 {
     let told = Told {

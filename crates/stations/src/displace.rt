@@ -95,7 +95,7 @@ fn sweep(mut t: Table, p: Report) -> Table
 }
 
 // Any other station at the report's hop of its ringlet loses that hop, and leaves if it has none left.
-pub fn displace_others(t: Table, p: Report) -> Table
+pub(crate) fn displace_others(t: Table, p: Report) -> Table
     requires { ⌜ TableKept t ⌝ }
     ensures { λ r. ⌜ r ≡ tableOf (displaced p (live t)) ⌝ }
 {

@@ -15,7 +15,7 @@ pub enum Found {
 }
 
 // How many stations stand before the place of an address.
-pub fn rank(t: Table, address: u64) -> usize
+pub(crate) fn rank(t: Table, address: u64) -> usize
     requires { ⌜ TableKept t ⌝ }
     ensures { λ r. ⌜ r ≡ rankOf address (live t) ⌝ }
 {

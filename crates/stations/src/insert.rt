@@ -24,7 +24,7 @@ fn insert_at(mut t: Table, at: usize, s: Station) -> Table
     t
 }
 
-pub fn insert_station(t: Table, s: Station) -> Table
+pub(crate) fn insert_station(t: Table, s: Station) -> Table
     requires { ⌜ TableKept t × (t .count < capacity) ⌝ }
     ensures { λ r. ⌜ r ≡ tableOf (inserted s (live t)) ⌝ }
 {

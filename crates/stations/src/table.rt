@@ -11,7 +11,7 @@ pub struct Table {
 }
 
 // What stands in a place that is not in use.
-pub fn blank_station() -> Station
+pub(crate) fn blank_station() -> Station
     ensures { λ r. ⌜ r ≡ blank ⌝ }
 {
     Station {

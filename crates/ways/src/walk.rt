@@ -50,7 +50,7 @@ fn walk_along(t: Table, index: [u8; 256], ringlet: u8, own: u8, h: u8) -> Walked
 }
 
 // The walk over the hops 1 to h of a ringlet, from the own request on that side.
-pub fn walk_to(t: Table, ringlet: u8, own: u8, h: u8) -> Walked
+pub(crate) fn walk_to(t: Table, ringlet: u8, own: u8, h: u8) -> Walked
     requires { ⌜ TableKept t ⌝ }
     ensures { λ r. ⌜ r ≡ walked (walk ringlet own (live t) h) ⌝ }
 {
