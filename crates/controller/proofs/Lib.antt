@@ -8,3 +8,4 @@ pub mod Examples
 pub mod Judging
 pub mod Sweeping
 pub mod Records
+pub mod Asking

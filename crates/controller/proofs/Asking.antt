@@ -1,0 +1,51 @@
+-- The own address, an odd one and a number of 2^48 or more are in no table, so they get "not in the table". Assumes nothing.
+use Prim.Native.Nat.{ℕ, _<_, _≤_, _^_}
+use mathlib.Core.Path.{_≡_, refl, sym, _∙_, ap}
+use mathlib.Core.Bool.{Bool, true, false, cond, true≢false}
+use mathlib.Core.List.{List, [], _∷_}
+use mathlib.Core.Logic.{_⊎_, ⊎-elim}
+use mathlib.Core.Option.{Option, none, some}
+use native.Mathlib.Omega.{arith}
+use borrow.Author.Tests.{ne-eqb}
+use Rattle.wire.specs.Fields.{oddFirst}
+use Rattle.blocks.specs.declared.attributes.Attributes.{Attributes}
+use Rattle.stations.specs.declared.station.Station.{Station}
+use Rattle.stations.specs.Stations.{present, attributesOf}
+use Rattle.stations.specs.Table.{Each}
+use Rattle.stations.specs.Kept.{StationKept}
+use Rattle.ways.specs.Choice.{wayTo}
+use Rattle.ways.specs.declared.choice.Reply.the-variants.{Unknown}
+use Rattle.controller.specs.State.{State}
+use Rattle.controller.specs.Node.{Shown, steered, shown, asked}
+use Rattle.controller.specs.Kept.{StateKept}
+
+-- The address of no station that is kept.
+abbrev pub Strange : ℕ → ℕ → Type 0
+Strange own a = (a ≡ own) ⊎ ((oddFirst a ≡ true) ⊎ (2 ^ 48 ≤ a))
+
+module _ (own forget : ℕ) (K : List ℕ) (a : ℕ) (strange : Strange own a) where
+  not-its : (s : Station) → StationKept own forget K s → s .address ≡ a → ⊥
+  not-its s k e =
+      ⊎-elim (λ (o : a ≡ own). k .foreign (e ∙ o))
+      (λ r. ⊎-elim (λ (o : oddFirst a ≡ true). true≢false (sym o ∙ (sym (ap oddFirst e) ∙ k .even))) (λ (h : 2 ^ 48 ≤ a). omega (arith, k .address)) r)
+      strange
+
+  nowhere : (l : List Station) → Each (StationKept own forget K) l → (present a l ≡ false) × (attributesOf a l ≡ none)
+  unfolding Each present attributesOf
+  nowhere [] each = (refl, refl)
+  nowhere (s ∷ l) each =
+      let other = ne-eqb (s .address) a (not-its s (each .0)) in
+      let (p, q) = nowhere l (each .1) in
+      (rw other p, rw other q)
+
+module _ (s : State) (k : StateKept s) (a : ℕ) (strange : Strange (s .choice .address) a) where
+  missing : (present a (s .stations) ≡ false) × (attributesOf a (s .stations) ≡ none)
+  missing = nowhere (s .choice .address) (s .choice .ticks .forget) (s .choice .known) a strange (s .stations) (k .stations .each)
+
+  pub strange-way : steered s a ≡ Unknown
+  unfolding steered wayTo
+  strange-way = rw (missing .0)
+
+  pub strange-attributes : asked s a ≡ shown none
+  unfolding asked
+  strange-attributes = rw (missing .1)
