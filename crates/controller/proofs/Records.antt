@@ -25,7 +25,7 @@ use Rattle.controller.specs.Record.{Outcome, refusal, refuses, closed, o
 use Rattle.controller.specs.Node.{Core, Node, Started, Answer, choiceOf, spansIn, withSpans, stateOf, startedWith, answerOf}
 use Rattle.controller.specs.Kept.{Kept}
 use Rattle.controller.specs.Promise.{Begun, Recorded}
-use Rattle.controller.specs.Steps.{pacedIn, Advanced}
+use Rattle.controller.specs.Steps.{pacedIn, refusedWith, Advanced}
 use Rattle.controller.specs.declared.close.Closed.{Closed}
 use Rattle.controller.proofs.ReadKept.{read-in-kept, block-bytes}
 use Rattle.controller.specs.Kept.{ReadingKept}
@@ -77,7 +77,7 @@ module _ (n : Node) (k : Kept n) (r : Reading) (block : List ℕ) where
         let s = judged-kept (choiceOf (n .core .settings)) r block spans (live (n .table)) (k .state .ticks) reads bytes (k .state .stations) in
         rw heard (kept-table (placed .stations) (s .few) (s .ascending))
 
-    pub refused : refusal (h .result) ≡ true → (old : List ℕ) → Advanced n r block old old (record { node = n; result = h .result; wrote = false })
+    pub refused : refusal (h .result) ≡ true → (old : List ℕ) → Advanced n r block old old (refusedWith n (h .result))
     unfolding outcomeOf
     refused is-refused old =
         let refuse : refusal (placed .result) ≡ true = rw result-is at is-refused in
@@ -134,7 +134,7 @@ module _ (n : Node) (k : Kept n) (r : Reading) (block : List ℕ) where
       }
 
 module _ (n : Node) (k : Kept n) (b old : List ℕ) where
-  pub no-room : length old < 7 → Recorded n b old old (record { node = n; result = 1; wrote = false })
+  pub no-room : length old < 7 → Recorded n b old old (refusedWith n 1)
   unfolding outcome reading outcomeOf judged
   no-room h = record {
     is = rw (lt-ltb (length old) 7 h) (sym (refused-same n 1 k));

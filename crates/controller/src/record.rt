@@ -18,7 +18,7 @@ ghost use Rattle.controller.specs.Node.{spansIn};
 ghost use Rattle.controller.specs.Promise.{Recorded};
 ghost use Rattle.controller.specs.Reading.{blockOf};
 ghost use Rattle.controller.specs.Record.{refusal};
-ghost use Rattle.controller.specs.Steps.{Advanced};
+ghost use Rattle.controller.specs.Steps.{refusedWith, Advanced};
 ghost use Rattle.wire.specs.Report.{reportBytes, over};
 
 #[repr(C)]
@@ -56,6 +56,18 @@ fn is_refusal(result: u8) -> bool
     result <= 8
 }
 
+// The same node, and nothing written.
+fn refuse(n: Node, result: u8) -> Answer
+    ensures { λ a. ⌜ a ≡ refusedWith n result ⌝ }
+{
+    let wrote = false;
+    Answer {
+        node: n,
+        result,
+        wrote,
+    }
+}
+
 // The report of a node's own requests, at the front of the output.
 fn send(out: &mut [u8], c: Core)
     ensures { λ _. ⌜ now (out .exit) ≡ over (reportBytes (c .pacer .sequence) (c .pacer .west) (c .pacer .east)) (now (out .entry)) ⌝ }
@@ -74,11 +86,7 @@ fn advance(n: Node, r: Reading, block: &[u8], out: &mut [u8]) -> Answer
     let d = act(c, t, r);
     let h = judge(n.table, d, t, r, block);
     if is_refusal(h.result) {
-        return Answer {
-            node: n,
-            result: h.result,
-            wrote: false,
-        };
+        return refuse(n, h.result);
     }
     let s = settle(d, c, t);
     let z = pace(s, t, is_tick(r));
@@ -115,11 +123,7 @@ pub fn take_record(n: Node, bytes: &[u8], out: &mut [u8]) -> Answer
     ensures { λ a. ⌜ Recorded n (now (bytes .entry)) (now (out .entry)) (now (out .exit)) a ⌝ }
 {
     if out.len() < 7 {
-        return Answer {
-            node: n,
-            result: 1,
-            wrote: false,
-        };
+        return refuse(n, 1);
     }
     let c = n.core;
     let r = read_record(bytes, c.settings.address);

@@ -18,8 +18,11 @@ judge-requires c κs = ((c .before .before .before .before .before .pre .0) .tab
 is-refusal-requires : tie.Need-is-refusal-requires
 is-refusal-requires c κs = search needs
 
+refuse-requires : tie.Need-refuse-requires
+refuse-requires c κs = search needs
+
 returns : tie.Need-returns
-returns c = refused (c .before .before .before .before .before .before .before .before .args .n) (c .before .before .before .before .before .before .before .before .pre .0) (c .before .before .before .before .before .before .before .before .args .r) ((c .before .before .before .before .before .before .before .before .args .block) .now) (c .before .before .before .before .ticks .ensures) (c .before .before .before .act .ensures) (c .before .before .judge .ensures) (sym (c .before .is-refusal .ensures) ∙ (c .if1 .taken)) ((c .before .before .before .before .before .before .before .before .args .out) .now)
+returns c = rw ((c .refuse .ensures)) (refused ((c .before .before .before .before .before .before .before .before .before .args .n)) ((c .before .before .before .before .before .before .before .before .before .pre) .0) ((c .before .before .before .before .before .before .before .before .before .args .r)) (((c .before .before .before .before .before .before .before .before .before .args .block)) .now) ((c .before .before .before .before .before .ticks .ensures)) ((c .before .before .before .before .act .ensures)) ((c .before .before .before .judge .ensures)) (sym ((c .before .before .is-refusal .ensures)) ∙ ((c .before .if1 .taken))) (((c .before .before .before .before .before .before .before .before .before .args .out)) .now))
 
 settle-requires : tie.Need-settle-requires
 settle-requires c κs = search needs
@@ -53,6 +56,7 @@ advance-spec =
     act-requires
     judge-requires
     is-refusal-requires
+    refuse-requires
     returns
     settle-requires
     is-tick-requires

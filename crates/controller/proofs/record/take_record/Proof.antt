@@ -6,8 +6,11 @@ use borrow.Author.Needs.{needs}
 use Rattle.controller.proofs.record.take_record.Statement.{statement}
 use Rattle.controller.proofs.record.take_record.Tie as tie
 
+refuse-requires : tie.Need-refuse-requires
+refuse-requires c κs = search needs
+
 returns : tie.Need-returns
-returns c = no-room (c .before .before .before .args .n) (c .before .before .before .pre) ((c .before .before .before .args .bytes) .now) ((c .before .before .before .args .out) .now) (c .if1 .taken)
+returns c = rw ((c .refuse .ensures)) (no-room ((c .before .before .before .before .args .n)) ((c .before .before .before .before .pre)) (((c .before .before .before .before .args .bytes)) .now) (((c .before .before .before .before .args .out)) .now) ((c .before .if1 .taken)))
 
 read-record-requires : tie.Need-read-record-requires
 read-record-requires c κs = search needs
@@ -28,6 +31,7 @@ pub take-record-spec : {M : Type 1} → statement M
 take-record-spec =
     tie.close
     (tie.spec
+    refuse-requires
     returns
     read-record-requires
     block-of-requires
