@@ -1,0 +1,28 @@
+-- Demand 2: "After any sequence of records the span requests, station table, reports, answers and steering are those of the rules. Blocks that we write are those of
+-- draft D2.0, and a node of the same level reads back what was written." The second sentence is RoundTrip.
+-- b are the bytes of a settings record, st what start answered to them, h the calls made since, the latest first; each call met its contract. Assumes nothing.
+use Prim.Native.Nat.{ℕ}
+use mathlib.Core.List.{List, [], _∷_}
+use Rattle.stations.specs.Kept.{StationsKept}
+use Rattle.controller.specs.declared.node.Started.{Started}
+use Rattle.controller.specs.Promise.{Begun}
+use Rattle.controller.specs.Node.{stateOf}
+use Rattle.promises.specs.History.{after, answered, Always, startOf, Made, callOf, callsOf, nodeAfter, Met, Ruled, AnsweredAs}
+use Rattle.promises.proofs.Coming.{ruled, answered-as}
+
+-- Every node is that of the rules, at every point.
+pub demand2 : (b : List ℕ) (st : Started) → Begun b st → (h : List Made) → Met st h
+    → Always (λ (g : List Made). Ruled b (nodeAfter st g) (after (startOf b) (callsOf g))) h
+unfolding Met Always
+demand2 b st begun [] met = ruled b st begun [] met
+demand2 b st begun (m ∷ h) met = (ruled b st begun (m ∷ h) met, demand2 b st begun h (met .1))
+
+-- Every call is answered as the rules answer it: result, report and buffer.
+pub demand2-answers : (b : List ℕ) (st : Started) → Begun b st → (h : List Made) (m : Made) → Met st (m ∷ h)
+    → AnsweredAs m (answered (startOf b) (callsOf h) (callOf m))
+demand2-answers b st begun h m met = answered-as b st begun h m met
+
+-- The table's laws: at most 63 stations, ascending, none with the own address, each with a hop, no two at one hop, and all that 02, Item 14 lists.
+pub demand2-table : (b : List ℕ) (st : Started) → Begun b st → (h : List Made) → Met st h
+    → (let s = stateOf (nodeAfter st h) in StationsKept (s .choice .address) (s .choice .ticks .forget) (s .choice .known) (s .stations))
+demand2-table b st begun h met = ruled b st begun h met .kept .state .stations

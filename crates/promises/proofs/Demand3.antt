@@ -1,0 +1,43 @@
+-- Demand 3: "Two nodes with equal settings, of which one knows some attribute types and the other these and more, are fed one sequence of records with the same output
+-- room, in which the larger refuses no block as malformed. At every point their stations, span requests, reports and steering are equal. For each station the
+-- smaller shows, for every type that it knows, the value the larger shows; or it says "behind", with the first mandatory type unknown to it in that station's
+-- latest block taken or set aside since it joined. It says so exactly when there is such a block and it has such a type." Assumes nothing.
+use Prim.Native.Nat.{ℕ, _≤_}
+use mathlib.Core.Path.{_≡_}
+use mathlib.Core.List.{List, [], _∷_}
+use Rattle.settings.specs.Reading.{settingsIn}
+use Rattle.blocks.specs.Types.{knows}
+use Rattle.blocks.specs.Levels.{Sub}
+use Rattle.controller.specs.declared.node.Started.{Started}
+use Rattle.controller.specs.State.{Choice, started}
+use Rattle.controller.specs.Node.{stateOf}
+use Rattle.controller.specs.Promise.{Begun}
+use Rattle.promises.specs.History.{Call, after, answered, Always, startOf, Made, callsOf, nodeAfter, Met}
+use Rattle.promises.specs.Levels.{NoEight, latest, noBlocks, knowing, Levelled, SameAnswer, SameResult, withLevel, NoEightMade}
+use Rattle.promises.proofs.TwoNodes.{at-one-point, same-answers, nodes-levelled, calls-alike}
+
+-- To the rules: c are the settings of the larger node, K the types that the smaller knows, h the calls, the latest first.
+module _ (c : Choice) (K : List ℕ) (sub : Sub K (c .known)) where
+  pub demand3 : (h : List Call) → NoEight (started c) h
+      → Always (λ (g : List Call). Levelled K (latest noBlocks (started c) g) (after (started (knowing K c)) g) (after (started c) g)) h
+  unfolding NoEight Always
+  demand3 [] n = at-one-point c K sub [] n
+  demand3 (d ∷ h) n = (at-one-point c K sub (d ∷ h) n, demand3 h (n .1))
+
+  -- Each call gives the same report, and the same result but for 24 beside 0.
+  pub demand3-answers : (h : List Call) (d : Call) → NoEight (started c) (d ∷ h)
+      → SameAnswer (answered (started (knowing K c)) h d) (answered (started c) h d)
+  demand3-answers h d n = same-answers c K sub h d n
+
+-- To nodes of the program: b are the settings bytes of the larger node, a those of one of a lower level and else equal settings, as level 1 beside level 2; g and h are
+-- the calls that were made of them, each of which met its contract.
+module _ (a b : List ℕ) (level : ℕ) (lower : level ≤ settingsIn b .settings .level) (equal : settingsIn a .settings ≡ withLevel level (settingsIn b .settings))
+    (small large : Started) (begun-small : Begun a small) (begun-large : Begun b large) where
+  pub demand3-nodes : (g h : List Made) → callsOf g ≡ callsOf h → Met small g → Met large h → NoEightMade h
+      → Levelled (knows level) (latest noBlocks (startOf b) (callsOf h)) (stateOf (nodeAfter small g)) (stateOf (nodeAfter large h))
+  demand3-nodes = nodes-levelled a b level lower equal small large begun-small begun-large
+
+  -- Each call leaves the same buffer, and its result is the same but for 24 beside 0.
+  pub demand3-calls : (g h : List Made) (x y : Made) → callsOf (x ∷ g) ≡ callsOf (y ∷ h) → x .old ≡ y .old → Met small (x ∷ g) → Met large (y ∷ h)
+      → NoEightMade (y ∷ h) → (x .new ≡ y .new) × SameResult (x .answer .result) (y .answer .result)
+  demand3-calls = calls-alike a b level lower equal small large begun-small begun-large

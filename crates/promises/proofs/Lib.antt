@@ -1,0 +1,12 @@
+pub mod Examples
+pub mod Dress
+pub mod Step
+pub mod First
+pub mod Showing
+pub mod Following
+pub mod Coming
+pub mod TwoNodes
+pub mod Demand2
+pub mod Demand3
+pub mod Possible
+pub mod Meets3

@@ -1,0 +1,85 @@
+-- Two nodes of the program that differ in their level, and the rules. Assumes nothing.
+use Prim.Native.Nat.{ℕ, _≤_}
+use mathlib.Core.Path.{_≡_, refl, sym, _∙_, ap}
+use mathlib.Core.List.{List, [], _∷_}
+use mathlib.Core.Option.{Option·none-ne-some}
+use Rattle.wire.specs.Report.{over}
+use Rattle.settings.specs.declared.choice.Settings.{Settings}
+use Rattle.settings.specs.Ticks.{ticksOf}
+use Rattle.settings.specs.Reading.{settingsIn}
+use Rattle.blocks.specs.Types.{knows}
+use Rattle.blocks.specs.Levels.{Sub}
+use Rattle.blocks.proofs.Known.{knows-more}
+use Rattle.controller.specs.declared.node.Started.{Started}
+use Rattle.controller.specs.State.{Choice, State, started}
+use Rattle.controller.specs.Record.{Outcome, refuses}
+use Rattle.controller.specs.Node.{choiceOf, stateOf}
+use Rattle.controller.specs.Promise.{Begun}
+use Rattle.promises.specs.History.{Call, after, answered, startOf, Made, callOf, callsOf, nodeAfter, Met}
+use Rattle.promises.specs.Levels.{NoEight, latest, noBlocks, knowing, dressed, Levelled, SameAnswer, SameResult, withLevel, NoEightMade}
+use Rattle.promises.proofs.Following.{answers, follows, levels}
+use Rattle.promises.proofs.Coming.{state-after, answered-as}
+
+-- To the rules: c are the settings of the larger node, K the types that the smaller knows, h the calls, the latest first.
+module _ (c : Choice) (K : List ℕ) (sub : Sub K (c .known)) where
+  pub at-one-point : (h : List Call) → NoEight (started c) h
+      → Levelled K (latest noBlocks (started c) h) (after (started (knowing K c)) h) (after (started c) h)
+  unfolding started dressed
+  at-one-point h n = levels noBlocks (started c) (λ a p. refl) (λ a b q. absurd (Option·none-ne-some b q)) refl K sub h n
+
+  pub same-answers : (h : List Call) (d : Call) → NoEight (started c) (d ∷ h)
+      → SameAnswer (answered (started (knowing K c)) h d) (answered (started c) h d)
+  unfolding started NoEight dressed
+  same-answers h d n =
+      let q = answers noBlocks (started c) (λ a p. refl) K sub h d (follows noBlocks (started c) (λ a p. refl) K sub h (n .1)) (n .0) in
+      record { report = q .report; result = q .result }
+
+-- What the latest call of a history was answered.
+lastAnswer : State → List Call → Outcome
+lastAnswer s [] = refuses 0 s
+lastAnswer s (d ∷ h) = answered s h d
+
+-- To nodes of the program: b are the settings bytes of the larger node, a those of one of a lower level; each call of both met its contract.
+module _ (a b : List ℕ) (level : ℕ) (lower : level ≤ settingsIn b .settings .level) (equal : settingsIn a .settings ≡ withLevel level (settingsIn b .settings))
+    (small large : Started) (begun-small : Begun a small) (begun-large : Begun b large) where
+  abbrev c : Choice
+  c = choiceOf (settingsIn b .settings)
+
+  sub : Sub (knows level) (c .known)
+  sub = knows-more level (settingsIn b .settings .level) lower
+
+  smaller-start : startOf a ≡ started (knowing (knows level) c)
+  unfolding startOf ticksOf
+  smaller-start = ap (λ (s : Settings). started (choiceOf s)) equal
+
+  -- No 8 of the program is no 8 of the rules.
+  no-eight : (h : List Made) → Met large h → NoEightMade h → NoEight (startOf b) (callsOf h)
+  unfolding Met NoEightMade NoEight callsOf
+  no-eight [] met n = tt
+  no-eight (m ∷ h) met n = (
+    λ (e : answered (startOf b) (callsOf h) (callOf m) .result ≡ 8). n .0 (answered-as b large begun-large h m met .result ∙ e),
+    no-eight h (met .1) (n .1),
+  )
+
+  pub nodes-levelled : (g h : List Made) → callsOf g ≡ callsOf h → Met small g → Met large h → NoEightMade h
+      → Levelled (knows level) (latest noBlocks (startOf b) (callsOf h)) (stateOf (nodeAfter small g)) (stateOf (nodeAfter large h))
+  unfolding startOf
+  nodes-levelled g h same met-small met-large n =
+      rw (state-after a small begun-small g met-small, state-after b large begun-large h met-large, same, smaller-start)
+      (at-one-point c (knows level) sub (callsOf h) (no-eight h met-large n))
+
+  -- Each call gives the same report and leaves the same buffer, and its result is the same but for 24 beside 0.
+  pub calls-alike : (g h : List Made) (x y : Made) → callsOf (x ∷ g) ≡ callsOf (y ∷ h) → x .old ≡ y .old → Met small (x ∷ g) → Met large (y ∷ h)
+      → NoEightMade (y ∷ h) → (x .new ≡ y .new) × SameResult (x .answer .result) (y .answer .result)
+  unfolding callsOf startOf lastAnswer
+  calls-alike g h x y same old met-small met-large n =
+      let u : Outcome = answered (started (knowing (knows level) c)) (callsOf h) (callOf y) in
+      let v : Outcome = answered (started c) (callsOf h) (callOf y) in
+      let s : SameAnswer u v = same-answers c (knows level) sub (callsOf h) (callOf y) (no-eight (y ∷ h) met-large n) in
+      let e : answered (startOf a) (callsOf g) (callOf x) ≡ u =
+      ap (lastAnswer (startOf a)) same ∙ ap (λ (z : State). answered z (callsOf h) (callOf y)) smaller-start in
+      let p = answered-as a small begun-small g x met-small in
+      let q = answered-as b large begun-large h y met-large in (
+        p .content ∙ ap (λ (o : Outcome). over (o .report) (x .old)) e ∙ rw (s .report, old) refl ∙ sym (q .content),
+        rw (p .result ∙ ap (λ (o : Outcome). o .result) e, q .result) (s .result),
+      )
