@@ -2,12 +2,17 @@
 -- draft D2.0, and a node of the same level reads back what was written." The second sentence is RoundTrip.
 -- b are the bytes of a settings record, st what start answered to them, h the calls made since, the latest first; each call met its contract. Assumes nothing.
 use Prim.Native.Nat.{ℕ}
+use mathlib.Core.Path.{_≡_}
+use mathlib.Core.Bool.{true, false}
 use mathlib.Core.List.{List, [], _∷_}
+use lib.ListN.{take, drop}
+use Rattle.wire.specs.Report.{ReadsBack}
 use Rattle.stations.specs.Kept.{StationsKept}
 use Rattle.controller.specs.declared.node.Started.{Started}
 use Rattle.controller.specs.Promise.{Begun}
-use Rattle.controller.specs.Node.{stateOf}
+use Rattle.controller.specs.Node.{stateOf, westRequest, eastRequest}
 use Rattle.promises.specs.History.{after, answered, Always, startOf, Made, callOf, callsOf, nodeAfter, Met, Ruled, AnsweredAs}
+use Rattle.promises.proofs.Telling.{report-tells, silent-stays}
 use Rattle.promises.proofs.Coming.{ruled, answered-as}
 
 -- Every node is that of the rules, at every point.
@@ -26,3 +31,16 @@ demand2-answers b st begun h m met = answered-as b st begun h m met
 pub demand2-table : (b : List ℕ) (st : Started) → Begun b st → (h : List Made) → Met st h
     → (let s = stateOf (nodeAfter st h) in StationsKept (s .choice .address) (s .choice .ticks .forget) (s .choice .known) (s .stations))
 demand2-table b st begun h met = ruled b st begun h met .kept .state .stations
+
+-- A report that is written is a record of kind 16 with the own sequence and requests, and the rest of the buffer stays; with none, all of it.
+pub demand2-report : (b : List ℕ) (st : Started) → Begun b st → (h : List Made) (m : Made) → Met st (m ∷ h) → m .answer .wrote ≡ true
+    → (let s = stateOf (m .answer .node) in
+    ReadsBack (take 7 (m .new)) (s .pacer .sequence) (westRequest s) (eastRequest s) × (drop 7 (m .new) ≡ drop 7 (m .old)))
+unfolding Met
+demand2-report b st begun h m met wrote =
+    report-tells (nodeAfter st h) (m .bytes) (m .old) (m .new) (m .answer) (met .0 (ruled b st begun h (met .1) .kept)) wrote
+
+pub demand2-silent : (b : List ℕ) (st : Started) → Begun b st → (h : List Made) (m : Made) → Met st (m ∷ h) → m .answer .wrote ≡ false → m .new ≡ m .old
+unfolding Met
+demand2-silent b st begun h m met silent =
+    silent-stays (nodeAfter st h) (m .bytes) (m .old) (m .new) (m .answer) (met .0 (ruled b st begun h (met .1) .kept)) silent

@@ -5,6 +5,7 @@
 use Prim.Native.Nat.{ℕ, _≤_}
 use mathlib.Core.Path.{_≡_}
 use mathlib.Core.List.{List, [], _∷_}
+use native.Mathlib.Omega.{arith}
 use Rattle.settings.specs.Reading.{settingsIn}
 use Rattle.blocks.specs.Types.{knows}
 use Rattle.blocks.specs.Levels.{Sub}
@@ -41,3 +42,9 @@ module _ (a b : List ℕ) (level : ℕ) (lower : level ≤ settingsIn b .setting
   pub demand3-calls : (g h : List Made) (x y : Made) → callsOf (x ∷ g) ≡ callsOf (y ∷ h) → x .old ≡ y .old → Met small (x ∷ g) → Met large (y ∷ h)
       → NoEightMade (y ∷ h) → (x .new ≡ y .new) × SameResult (x .answer .result) (y .answer .result)
   demand3-calls = calls-alike a b level lower equal small large begun-small begun-large
+
+-- Level 1 beside level 2.
+pub demand3-levels : (a b : List ℕ) → settingsIn b .settings .level ≡ 2 → settingsIn a .settings ≡ withLevel 1 (settingsIn b .settings)
+    → (small large : Started) → Begun a small → Begun b large → (g h : List Made) → callsOf g ≡ callsOf h → Met small g → Met large h → NoEightMade h
+    → Levelled (knows 1) (latest noBlocks (startOf b) (callsOf h)) (stateOf (nodeAfter small g)) (stateOf (nodeAfter large h))
+demand3-levels a b two equal = demand3-nodes a b 1 (rw two (omega arith)) equal

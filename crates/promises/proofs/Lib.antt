@@ -4,6 +4,7 @@ pub mod Step
 pub mod First
 pub mod Showing
 pub mod Following
+pub mod Telling
 pub mod Coming
 pub mod TwoNodes
 pub mod Demand2

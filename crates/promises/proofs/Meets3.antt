@@ -15,9 +15,14 @@ use Rattle.blocks.specs.Types.{knows, good, among}
 use Rattle.blocks.specs.Entries.{cut}
 use Rattle.blocks.specs.Meaning.{known, has, sound, behind, value}
 use Rattle.controller.specs.State.{State}
-use Rattle.controller.specs.Node.{asked}
-use Rattle.promises.specs.History.{Call, after, answered, startOf}
-use Rattle.promises.specs.Levels.{NoEight, latest, noBlocks, saysBehind, withLevel}
+use Rattle.stations.specs.Table.{blank, tableOf}
+use Rattle.controller.specs.declared.node.Started.{Started}
+use Rattle.controller.specs.Promise.{Begun}
+use Rattle.controller.specs.Node.{startedWith, asked}
+use Rattle.promises.specs.History.{Call, after, answered, startOf, callsOf, Met}
+use Rattle.promises.specs.Levels.{NoEight, latest, noBlocks, saysBehind, withLevel, NoEightMade}
+use Rattle.promises.specs.Possible.{Handed, AllHanded, made, areBytes}
+use Rattle.promises.proofs.Possible.{begins, made-met, calls-made, are-bytes}
 use Rattle.promises.specs.Examples.{settings, station, link, report, attributes, shownAs}
 
 -- The calls, the latest first, each with room for a report.
@@ -89,3 +94,34 @@ returns-no-eight = (λ e. omega arith, (λ e. omega arith, (λ e. omega arith, a
 pub returns-shown : (shownAs (asked (after small returns) (station 2)) ≡ 0 ∷ 0 ∷ 1 ∷ 1 ∷ 0 ∷ 0 ∷ []) × (latest noBlocks large returns (station 2) ≡ none)
 unfolding after asked latest startOf settingsIn headOf broken fullIn fieldsOf inRange addressAt ticksOf cut known has sound behind value knows good among
 returns-shown = (refl, refl)
+
+-- The same at nodes of the program, from the bytes of their settings: every hypothesis of the theorems on nodes is met.
+abbrev room : List ℕ
+room = replicate 7 0
+
+abbrev handed : List Handed
+handed = record { bytes = attributes 2 typeTwo; old = room } ∷ record { bytes = report 0 255 2 1 0 0; old = room } ∷ []
+
+abbrev smallNode : Started
+smallNode = startedWith (settings 1 0)
+
+abbrev largeNode : Started
+largeNode = startedWith (settings 2 0)
+
+pub begun-both : Begun (settings 1 0) smallNode × Begun (settings 2 0) largeNode
+unfolding areBytes
+begun-both = (begins (settings 1 0) (are-bytes (settings 1 0) refl), begins (settings 2 0) (are-bytes (settings 2 0) refl))
+
+bytes-handed : AllHanded handed
+unfolding AllHanded areBytes
+bytes-handed = (are-bytes (attributes 2 typeTwo) refl, (are-bytes (report 0 255 2 1 0 0) refl, tt))
+
+pub met-both : Met smallNode (made smallNode handed) × Met largeNode (made largeNode handed)
+met-both = (made-met smallNode handed bytes-handed, made-met largeNode handed bytes-handed)
+
+pub same-calls : callsOf (made smallNode handed) ≡ callsOf (made largeNode handed)
+same-calls = calls-made smallNode largeNode handed
+
+pub none-eight : NoEightMade (made largeNode handed)
+unfolding NoEightMade made startedWith tableOf blank settingsIn headOf broken fullIn fieldsOf inRange addressAt ticksOf cut known has sound behind value knows good among
+none-eight = (λ e. omega arith, (λ e. omega arith, tt))
