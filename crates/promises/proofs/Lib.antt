@@ -11,3 +11,8 @@ pub mod Demand2
 pub mod Demand3
 pub mod Possible
 pub mod Meets3
+pub mod AfterKept
+pub mod Saying
+pub mod Standing
+pub mod Steering
+pub mod MeetsSteering

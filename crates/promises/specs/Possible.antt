@@ -9,7 +9,7 @@ use Rattle.wire.specs.Fields.{Bytes}
 use Rattle.controller.specs.declared.node.Started.{Started}
 use Rattle.controller.specs.Record.{outcome}
 use Rattle.controller.specs.Node.{stateOf, answerOf}
-use Rattle.promises.specs.History.{Made, nodeAfter}
+use Rattle.promises.specs.History.{Call, Made, nodeAfter}
 
 -- A record and a buffer, as they are handed to a call.
 pub record Handed : Type 0 where
@@ -33,3 +33,8 @@ made st (c ∷ h) =
 unfoldable pub areBytes : List ℕ → Bool
 areBytes [] = true
 areBytes (x ∷ l) = ltb x 256 && areBytes l
+
+unfoldable pub allBytes : List Call → Bool
+unfolding areBytes
+allBytes [] = true
+allBytes (c ∷ h) = areBytes (c .bytes) && allBytes h

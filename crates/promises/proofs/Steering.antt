@@ -1,0 +1,111 @@
+-- After any history, a way that is answered crosses no span on which either end's latest known request is SF or FS.
+-- `said` is that latest knowledge, defined on the history; the table is shown to hold it. Assumes nothing.
+use Prim.Native.Nat.{ℕ, _<_, _≤_}
+use mathlib.Core.Path.{_≡_, refl, sym, _∙_, subst}
+use mathlib.Core.Bool.{false}
+use mathlib.Core.List.{List, [], _∷_}
+use mathlib.Core.Option.{none, some}
+use Rattle.settings.specs.Kept.{TicksKept}
+use Rattle.settings.specs.Reading.{settingsIn}
+use Rattle.stations.specs.declared.station.Station.{Station}
+use Rattle.stations.specs.Stations.{present}
+use Rattle.stations.specs.Table.{Each, Ascending}
+use Rattle.ways.specs.Walk.{Ends}
+use Rattle.ways.specs.declared.choice.Reply.{Reply}
+use Rattle.ways.specs.declared.choice.Reply.the-variants.{West, East}
+use Rattle.ways.specs.Choice.{hopOf}
+use Rattle.ways.specs.Usable.{Open}
+use Rattle.ways.proofs.Choosing.{west-usable, east-usable}
+use Rattle.ways.proofs.Opening.{way-open}
+use Rattle.controller.specs.Reading.{blockOf, reading}
+use Rattle.controller.specs.State.{Choice, State, started}
+use Rattle.controller.specs.Record.{outcome}
+use Rattle.controller.specs.declared.node.Started.{Started}
+use Rattle.controller.specs.Promise.{Begun}
+use Rattle.controller.specs.Node.{choiceOf, stateOf, westRequest, eastRequest, steered}
+use Rattle.promises.specs.History.{Call, after, AllBytes, startOf, Made, callsOf, nodeAfter, Met}
+use Rattle.promises.specs.Steering.{said, StandsAt, Clear}
+use Rattle.promises.proofs.AfterKept.{after-kept}
+use Rattle.promises.proofs.Coming.{ruled}
+use Rattle.promises.proofs.Saying.{call-says}
+use Rattle.promises.proofs.Standing.{open-clear, stands-once}
+
+-- The requests in the table are those last said, on the history.
+pub said-is-stored : (c : Choice) (h : List Call)
+    → Each (λ (x : Station). said (started c) h (x .address) ≡ some (record { west = x .west; east = x .east })) (after (started c) h .stations)
+unfolding Each started after said outcome
+said-is-stored c [] = tt
+said-is-stored c (x ∷ h) =
+    call-says (reading (after (started c) h .choice .address) (x .bytes) (x .room)) (blockOf (x .bytes)) (after (started c) h)
+    (said (started c) h) (said-is-stored c h)
+
+-- Of an address that is not in the table nothing is known.
+pub said-of-absent : (c : Choice) (h : List Call) (a : ℕ) → present a (after (started c) h .stations) ≡ false → said (started c) h a ≡ none
+unfolding said
+said-of-absent c [] a p = refl
+said-of-absent c (x ∷ h) a p = rw p refl
+
+-- A way that is answered is open.
+west-open : (s : State) (a : ℕ) → steered s a ≡ West → Open 0 (westRequest s) (s .stations) (hopOf 0 a (s .stations))
+unfolding steered
+west-open s a q =
+    let (x, p) = west-usable (westRequest s) (eastRequest s) (s .stations) a q in
+    way-open 0 (westRequest s) (s .stations) (hopOf 0 a (s .stations)) x p
+
+east-open : (s : State) (a : ℕ) → steered s a ≡ East → Open 1 (eastRequest s) (s .stations) (hopOf 1 a (s .stations))
+unfolding steered
+east-open s a q =
+    let (x, p) = east-usable (westRequest s) (eastRequest s) (s .stations) a q in
+    way-open 1 (eastRequest s) (s .stations) (hopOf 1 a (s .stations)) x p
+
+-- West, or east, is answered: the station has a hop there.
+pub west-hop : (c : Choice) (h : List Call) (a : ℕ) → steered (after (started c) h) a ≡ West → 1 ≤ hopOf 0 a (after (started c) h .stations)
+west-hop c h a q = west-open (after (started c) h) a q .some-hop
+
+pub east-hop : (c : Choice) (h : List Call) (a : ℕ) → steered (after (started c) h) a ≡ East → 1 ≤ hopOf 1 a (after (started c) h .stations)
+east-hop c h a q = east-open (after (started c) h) a q .some-hop
+
+-- For either ringlet: each span of an open way is clear.
+clear : (c : Choice) (h : List Call) → Ascending (after (started c) h .stations) → (ringlet own n : ℕ) → Open ringlet own (after (started c) h .stations) n
+    → (j : ℕ) → j < n → Clear (said (started c) h) ringlet own (after (started c) h .stations) j
+clear c h up = open-clear (said (started c) h) (after (started c) h .stations) up (said-is-stored c h)
+
+module _ (c : Choice) (t : TicksKept (c .ticks)) (h : List Call) (b : AllBytes h) where
+  up : Ascending (after (started c) h .stations)
+  up = after-kept c t h b .stations .ascending
+
+  -- West is answered: neither end of any span up to the station has last requested SF or FS.
+  pub west-clear : (a : ℕ) → steered (after (started c) h) a ≡ West → (j : ℕ) → j < hopOf 0 a (after (started c) h .stations)
+      → Clear (said (started c) h) 0 (westRequest (after (started c) h)) (after (started c) h .stations) j
+  west-clear a q = clear c h up 0 _ _ (west-open (after (started c) h) a q)
+
+  -- East is answered: likewise.
+  pub east-clear : (a : ℕ) → steered (after (started c) h) a ≡ East → (j : ℕ) → j < hopOf 1 a (after (started c) h .stations)
+      → Clear (said (started c) h) 1 (eastRequest (after (started c) h)) (after (started c) h .stations) j
+  east-clear a q = clear c h up 1 _ _ (east-open (after (started c) h) a q)
+
+  -- One station stands at a hop: what is clear of one there is clear of every one.
+  pub one-stands : (ringlet n : ℕ) → 1 ≤ n → (e d : Ends) → StandsAt (said (started c) h) ringlet n (after (started c) h .stations) e
+      → StandsAt (said (started c) h) ringlet n (after (started c) h .stations) d → e ≡ d
+  one-stands ringlet n low =
+      stands-once (said (started c) h) ringlet n low (after (started c) h .stations) (after-kept c t h b .stations .apart ringlet)
+
+-- The same of nodes of the program: b are settings bytes, st what start answered, h the calls made since, each of which met its contract; x is what steer answers.
+module _ (b : List ℕ) (st : Started) (begun : Begun b st) (h : List Made) (met : Met st h) (a : ℕ) (x : Reply)
+    (asks : x ≡ steered (stateOf (nodeAfter st h)) a) where
+  abbrev s : State
+  s = after (startOf b) (callsOf h)
+
+  answer-is : x ≡ steered s a
+  answer-is = asks ∙ ruled b st begun h met .ways a
+
+  rising : Ascending (s .stations)
+  rising = subst Ascending (ruled b st begun h met .stations) (ruled b st begun h met .kept .state .stations .ascending)
+
+  pub node-west-clear : x ≡ West → (j : ℕ) → j < hopOf 0 a (s .stations) → Clear (said (startOf b) (callsOf h)) 0 (westRequest s) (s .stations) j
+  unfolding startOf
+  node-west-clear q = clear (choiceOf (settingsIn b .settings)) (callsOf h) rising 0 _ _ (west-open s a (sym answer-is ∙ q))
+
+  pub node-east-clear : x ≡ East → (j : ℕ) → j < hopOf 1 a (s .stations) → Clear (said (startOf b) (callsOf h)) 1 (eastRequest s) (s .stations) j
+  unfolding startOf
+  node-east-clear q = clear (choiceOf (settingsIn b .settings)) (callsOf h) rising 1 _ _ (east-open s a (sym answer-is ∙ q))
