@@ -16,3 +16,12 @@ pub mod Saying
 pub mod Standing
 pub mod Steering
 pub mod MeetsSteering
+pub mod Contracts
+pub mod UniqueWire
+pub mod UniqueSettings
+pub mod UniqueSpans
+pub mod UniquePacer
+pub mod UniqueBlocks
+pub mod UniqueStations
+pub mod UniqueWays
+pub mod UniqueController

@@ -5,3 +5,5 @@ pub mod Steering
 pub mod Written
 pub mod Examples
 pub mod Possible
+pub mod Contracts
+pub mod Unique
