@@ -37,7 +37,7 @@ pub begun : (b : List ℕ) (r : Started) → Bytes b → r ≡ startedWith b →
 begun b r bytes e = record { is = e; kept = rw e (started-with-kept b bytes) }
 
 -- Nothing laid over a buffer leaves it.
-over-none : (old : List ℕ) → old ≡ over [] old
+pub over-none : (old : List ℕ) → old ≡ over [] old
 unfolding over
 over-none old = go (leb 0 (length old))
   where

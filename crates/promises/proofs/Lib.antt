@@ -25,3 +25,9 @@ pub mod UniqueBlocks
 pub mod UniqueStations
 pub mod UniqueWays
 pub mod UniqueController
+pub mod Order
+pub mod Results
+pub mod Numbers
+pub mod Starting
+pub mod Demand1
+pub mod Meets1

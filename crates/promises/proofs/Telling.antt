@@ -5,7 +5,7 @@ use mathlib.Core.Bool.{Bool, true, false, cond, true≢false, false≢true}
 use mathlib.Core.List.{List, [], _∷_}
 use native.Mathlib.Omega.{arith}
 use lib.ListN.{length, take, drop}
-use lib.Dec.{leb, ltb}
+use lib.Dec.{ltb}
 use borrow.Author.Tests.{lt-ltb, ltb-false, le-leb}
 use Rattle.wire.specs.Report.{reportBytes, over, ReadsBack}
 use Rattle.wire.proofs.ReadsBack.{report-reads-back, front-is-report}
@@ -23,6 +23,7 @@ use Rattle.controller.specs.Closing.{settled, pacing, isTick, reportOf}
 use Rattle.controller.specs.Record.{Outcome, refusal, refuses, closed, outcomeOf, outcome}
 use Rattle.controller.specs.Node.{stateOf, wrote, answerOf, westRequest, eastRequest}
 use Rattle.controller.specs.Promise.{Recorded}
+use Rattle.controller.proofs.Records.{over-none}
 
 -- The report of an outcome, where there is one, is made of the pacer that it leaves.
 abbrev Telling : Outcome → Type 0
@@ -62,12 +63,7 @@ no-room-silent s b room h = go (ltb room 7) refl h
     go false e h = ltb-false room 7 e
 
 silent-over : (report old : List ℕ) → wrote report ≡ false → over report old ≡ old
-unfolding over
-silent-over [] old h = go (leb 0 (length old))
-  where
-    go : (b : Bool) → cond b old old ≡ old
-    go true = refl
-    go false = refl
+silent-over [] old h = sym (over-none old)
 silent-over (x ∷ l) old h = absurd (true≢false (sym (lt-ltb 0 (length (x ∷ l)) (omega arith)) ∙ h))
 
 module _ (n : Node) (b old new : List ℕ) (r : Answer) (met : Recorded n b old new r) where

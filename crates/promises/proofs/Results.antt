@@ -1,0 +1,73 @@
+-- The result of a record is its handler's, and a refusal leaves the state as it was and writes nothing. Assumes nothing.
+use Prim.Native.Nat.{ℕ}
+use mathlib.Core.Path.{_≡_, refl, sym, _∙_, ap}
+use mathlib.Core.Bool.{Bool, true, false, cond}
+use mathlib.Core.List.{List}
+use lib.ListN.{length}
+use Rattle.wire.specs.Report.{over}
+use Rattle.stations.specs.Hearing.{Placed}
+use Rattle.controller.specs.declared.reading.Reading.{Reading}
+use Rattle.controller.specs.Reading.{blockOf, reading}
+use Rattle.controller.specs.State.{Spans, State}
+use Rattle.controller.specs.Handling.{acted, judged}
+use Rattle.controller.specs.Closing.{isTick}
+use Rattle.controller.specs.Record.{Outcome, refusal, refuses, closed, outcomeOf, outcome}
+use Rattle.controller.specs.declared.node.Node.{Node}
+use Rattle.controller.specs.declared.record.Answer.{Answer}
+use Rattle.controller.specs.Node.{stateOf, answerOf}
+use Rattle.controller.specs.Kept.{Kept}
+use Rattle.controller.specs.Promise.{Recorded}
+use Rattle.controller.proofs.Nodes.{refused-same}
+use Rattle.controller.proofs.Records.{over-none}
+
+module _ (s : State) (block : List ℕ) where
+  -- What the handler of a record that was read makes of the spans and of the stations, with its result.
+  abbrev spans : Reading → Spans
+  spans r = acted (s .choice .ticks) r (s .spans)
+
+  abbrev handled : Reading → Placed
+  handled r = judged (s .choice) r block (spans r) (s .stations)
+
+  unfoldable pub given : Reading → ℕ
+  unfolding acted judged
+  given r = handled r .result
+
+  -- Refused or closed, the result is the handler's.
+  pub result-of : (r : Reading) → outcomeOf r block s .result ≡ given r
+  unfolding outcomeOf given
+  result-of r = go (refusal (given r))
+    where
+      go : (t : Bool) → cond {A = Outcome} t (refuses (given r) s) (closed s (isTick r) (spans r) (handled r)) .result ≡ given r
+      go true = refl
+      go false = refl
+
+  refused-of : (r : Reading) → refusal (given r) ≡ true → outcomeOf r block s ≡ refuses (given r) s
+  unfolding outcomeOf given
+  refused-of r h = rw h
+
+module _ (s : State) (b : List ℕ) (room : ℕ) where
+  pub result-is : outcome s b room .result ≡ given s (blockOf b) (reading (s .choice .address) b room)
+  unfolding outcome
+  result-is = result-of s (blockOf b) (reading (s .choice .address) b room)
+
+  pub untouched : refusal (outcome s b room .result) ≡ true → outcome s b room ≡ refuses (outcome s b room .result) s
+  unfolding outcome
+  untouched h =
+      let r : Reading = reading (s .choice .address) b room in
+      rw (result-of s (blockOf b) r) (refused-of s (blockOf b) r (rw (result-of s (blockOf b) r) at h))
+
+-- What a call that met its contract answers ..
+module _ {n : Node} {b old new : List ℕ} {r : Answer} (h : Recorded n b old new r) where
+  pub recorded-result : r .result ≡ outcome (stateOf n) b (length old) .result
+  recorded-result = ap (λ (x : Answer). x .result) (h .is)
+
+  -- .. and, where it refuses, leaves.
+  module _ (k : Kept n) (refused : refusal (r .result) ≡ true) where
+    same : outcome (stateOf n) b (length old) ≡ refuses (outcome (stateOf n) b (length old) .result) (stateOf n)
+    same = untouched (stateOf n) b (length old) (rw recorded-result at refused)
+
+    pub answer-refused : r ≡ record { node = n; result = outcome (stateOf n) b (length old) .result; wrote = false }
+    answer-refused = h .is ∙ ap (answerOf n) same ∙ refused-same n (outcome (stateOf n) b (length old) .result) k
+
+    pub buffer-refused : new ≡ old
+    buffer-refused = h .content ∙ ap (λ (o : Outcome). over (o .report) old) same ∙ sym (over-none old)
