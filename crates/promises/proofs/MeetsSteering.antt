@@ -2,7 +2,7 @@
 use Prim.Native.Nat.{ℕ}
 use mathlib.Core.Path.{_≡_, refl}
 use mathlib.Core.Bool.{false}
-use mathlib.Core.List.{List, [], _∷_, reverse, map}
+use mathlib.Core.List.{List, [], _∷_}
 use mathlib.Core.Option.{none, some}
 use native.Mathlib.Omega.{arith}
 use Rattle.wire.specs.Fields.{addressAt}
@@ -21,6 +21,7 @@ use Rattle.controller.specs.State.{Choice, State, started}
 use Rattle.controller.specs.Node.{choiceOf, westRequest, eastRequest, steered}
 use Rattle.promises.specs.History.{Call, after, AllBytes}
 use Rattle.promises.specs.Steering.{said, StandsAt, Clear}
+use Rattle.promises.specs.Drilled.{callsFor}
 use Rattle.promises.specs.Examples.{station, link, report, settings, ring}
 use Rattle.promises.specs.Possible.{allBytes}
 use Rattle.promises.proofs.Possible.{all-bytes}
@@ -38,12 +39,8 @@ pub one-is : choiceOf (settingsIn (settings 2 0) .settings) ≡ one
 unfolding settingsIn headOf broken fullIn fieldsOf inRange addressAt ticksOf knows
 one-is = refl
 
--- Records in the order in which they are made, as a history, each with room for a report.
-abbrev history : List (List ℕ) → List Call
-history l = map (λ (b : List ℕ). record { bytes = b; room = 7 }) (reverse l)
-
 abbrev state : List (List ℕ) → State
-state l = after (started one) (history l)
+state l = after (started one) (callsFor l)
 
 abbrev ends : ℕ → ℕ → Ends
 ends west east = record { west = west; east = east }
@@ -63,9 +60,9 @@ ticks-met = record {
 }
 
 -- P11: west is answered, at hop 2; and what west-clear then says of the second span.
-pub west-bytes : AllBytes (history (ring IDLE))
+pub west-bytes : AllBytes (callsFor (ring IDLE))
 unfolding allBytes
-west-bytes = all-bytes (history (ring IDLE)) refl
+west-bytes = all-bytes (callsFor (ring IDLE)) refl
 
 pub west-met : steered (state (ring IDLE)) (station 3) ≡ West
 unfolding started after steered addressAt
@@ -75,17 +72,17 @@ pub west-two : hopOf 0 (station 3) (state (ring IDLE) .stations) ≡ 2
 unfolding started after hopOf addressAt
 west-two = refl
 
-pub west-second : Clear (said (started one) (history (ring IDLE))) 0 (westRequest (state (ring IDLE))) (state (ring IDLE) .stations) 1
-west-second = west-clear one ticks-met (history (ring IDLE)) west-bytes (station 3) west-met 1 (omega (arith, west-two))
+pub west-second : Clear (said (started one) (callsFor (ring IDLE))) 0 (westRequest (state (ring IDLE))) (state (ring IDLE) .stations) 1
+west-second = west-clear one ticks-met (callsFor (ring IDLE)) west-bytes (station 3) west-met 1 (omega (arith, west-two))
 
-pub west-stands : StandsAt (said (started one) (history (ring IDLE))) 0 2 (state (ring IDLE) .stations) (ends IDLE IDLE)
+pub west-stands : StandsAt (said (started one) (callsFor (ring IDLE))) 0 2 (state (ring IDLE) .stations) (ends IDLE IDLE)
 unfolding started said addressAt
 west-stands = record { address = station 3; at = west-two; requests = refl }
 
 -- P12: east is answered, at hop 2.
-pub east-bytes : AllBytes (history (ring SD))
+pub east-bytes : AllBytes (callsFor (ring SD))
 unfolding allBytes
-east-bytes = all-bytes (history (ring SD)) refl
+east-bytes = all-bytes (callsFor (ring SD)) refl
 
 pub east-met : steered (state (ring SD)) (station 3) ≡ East
 unfolding started after steered addressAt
@@ -95,15 +92,15 @@ pub east-two : hopOf 1 (station 3) (state (ring SD) .stations) ≡ 2
 unfolding started after hopOf addressAt
 east-two = refl
 
-pub east-second : Clear (said (started one) (history (ring SD))) 1 (eastRequest (state (ring SD))) (state (ring SD) .stations) 1
-east-second = east-clear one ticks-met (history (ring SD)) east-bytes (station 3) east-met 1 (omega (arith, east-two))
+pub east-second : Clear (said (started one) (callsFor (ring SD))) 1 (eastRequest (state (ring SD))) (state (ring SD) .stations) 1
+east-second = east-clear one ticks-met (callsFor (ring SD)) east-bytes (station 3) east-met 1 (omega (arith, east-two))
 
 -- What was last said of 2 and of 3 there, and of a station never heard.
-pub said-2 : said (started one) (history (ring SD)) (station 2) ≡ some (ends SD IDLE)
+pub said-2 : said (started one) (callsFor (ring SD)) (station 2) ≡ some (ends SD IDLE)
 unfolding started said addressAt
 said-2 = refl
 
-pub said-3 : said (started one) (history (ring SD)) (station 3) ≡ some (ends IDLE IDLE)
+pub said-3 : said (started one) (callsFor (ring SD)) (station 3) ≡ some (ends IDLE IDLE)
 unfolding started said addressAt
 said-3 = refl
 
@@ -111,7 +108,7 @@ pub absent-5 : present (station 5) (state (ring SD) .stations) ≡ false
 unfolding started after present addressAt
 absent-5 = refl
 
-pub said-5 : said (started one) (history (ring SD)) (station 5) ≡ none
+pub said-5 : said (started one) (callsFor (ring SD)) (station 5) ≡ none
 unfolding started said addressAt
 said-5 = refl
 
@@ -120,15 +117,15 @@ abbrev and-then : ℕ → List (List ℕ)
 and-then sequence = report 0 255 2 1 SD IDLE ∷ report 0 255 2 sequence IDLE SF ∷ []
 
 -- A copy says nothing, whatever its requests; nor does an old report; a newer one does.
-pub said-copy : said (started one) (history (and-then 1)) (station 2) ≡ some (ends SD IDLE)
+pub said-copy : said (started one) (callsFor (and-then 1)) (station 2) ≡ some (ends SD IDLE)
 unfolding started said addressAt
 said-copy = refl
 
-pub said-old : said (started one) (history (and-then 200)) (station 2) ≡ some (ends SD IDLE)
+pub said-old : said (started one) (callsFor (and-then 200)) (station 2) ≡ some (ends SD IDLE)
 unfolding started said addressAt
 said-old = refl
 
-pub said-newer : said (started one) (history (and-then 2)) (station 2) ≡ some (ends IDLE SF)
+pub said-newer : said (started one) (callsFor (and-then 2)) (station 2) ≡ some (ends IDLE SF)
 unfolding started said addressAt
 said-newer = refl
 
@@ -136,7 +133,7 @@ said-newer = refl
 abbrev purging : List (List ℕ)
 purging = report 0 255 2 1 SD IDLE ∷ link 0 2 ∷ []
 
-pub said-purged : said (started one) (history purging) (station 2) ≡ none
+pub said-purged : said (started one) (callsFor purging) (station 2) ≡ none
 unfolding started said addressAt
 said-purged = refl
 
@@ -144,7 +141,7 @@ said-purged = refl
 abbrev rejoining : List (List ℕ)
 rejoining = report 0 255 2 1 SD IDLE ∷ link 0 2 ∷ link 0 0 ∷ report 0 255 2 1 IDLE SF ∷ []
 
-pub said-rejoined : said (started one) (history rejoining) (station 2) ≡ some (ends IDLE SF)
+pub said-rejoined : said (started one) (callsFor rejoining) (station 2) ≡ some (ends IDLE SF)
 unfolding started said addressAt
 said-rejoined = refl
 
@@ -160,6 +157,6 @@ pub far-end-failed : steered (state (westward SF)) (station 3) ≡ NoWay
 unfolding started after steered addressAt
 far-end-failed = refl
 
-pub far-end-said : said (started one) (history (westward SF)) (station 3) ≡ some (ends IDLE SF)
+pub far-end-said : said (started one) (callsFor (westward SF)) (station 3) ≡ some (ends IDLE SF)
 unfolding started said addressAt
 far-end-said = refl

@@ -12,13 +12,14 @@ use Rattle.blocks.specs.Levels.{Sub}
 use Rattle.blocks.proofs.Known.{knows-more}
 use Rattle.controller.specs.declared.node.Started.{Started}
 use Rattle.controller.specs.State.{Choice, State, started}
-use Rattle.controller.specs.Record.{Outcome, refuses}
+use Rattle.controller.specs.Record.{Outcome}
 use Rattle.controller.specs.Node.{choiceOf, stateOf}
 use Rattle.controller.specs.Promise.{Begun}
 use Rattle.promises.specs.History.{Call, after, answered, startOf, Made, callOf, callsOf, nodeAfter, Met}
 use Rattle.promises.specs.Levels.{NoEight, latest, noBlocks, knowing, dressed, Levelled, SameAnswer, SameResult, withLevel, NoEightMade}
 use Rattle.promises.proofs.Following.{answers, follows, levels}
 use Rattle.promises.proofs.Coming.{state-after, answered-as}
+use Rattle.promises.proofs.Drilling.{lastOf}
 
 -- To the rules: c are the settings of the larger node, K the types that the smaller knows, h the calls, the latest first.
 module _ (c : Choice) (K : List ℕ) (sub : Sub K (c .known)) where
@@ -33,11 +34,6 @@ module _ (c : Choice) (K : List ℕ) (sub : Sub K (c .known)) where
   same-answers h d n =
       let q = answers noBlocks (started c) (λ a p. refl) K sub h d (follows noBlocks (started c) (λ a p. refl) K sub h (n .1)) (n .0) in
       record { report = q .report; result = q .result }
-
--- What the latest call of a history was answered.
-lastAnswer : State → List Call → Outcome
-lastAnswer s [] = refuses 0 s
-lastAnswer s (d ∷ h) = answered s h d
 
 -- To nodes of the program: b are the settings bytes of the larger node, a those of one of a lower level; each call of both met its contract.
 module _ (a b : List ℕ) (level : ℕ) (lower : level ≤ settingsIn b .settings .level) (equal : settingsIn a .settings ≡ withLevel level (settingsIn b .settings))
@@ -71,13 +67,13 @@ module _ (a b : List ℕ) (level : ℕ) (lower : level ≤ settingsIn b .setting
   -- Each call gives the same report and leaves the same buffer, and its result is the same but for 24 beside 0.
   pub calls-alike : (g h : List Made) (x y : Made) → callsOf (x ∷ g) ≡ callsOf (y ∷ h) → x .old ≡ y .old → Met small (x ∷ g) → Met large (y ∷ h)
       → NoEightMade (y ∷ h) → (x .new ≡ y .new) × SameResult (x .answer .result) (y .answer .result)
-  unfolding callsOf startOf lastAnswer
+  unfolding callsOf startOf
   calls-alike g h x y same old met-small met-large n =
       let u : Outcome = answered (started (knowing (knows level) c)) (callsOf h) (callOf y) in
       let v : Outcome = answered (started c) (callsOf h) (callOf y) in
       let s : SameAnswer u v = same-answers c (knows level) sub (callsOf h) (callOf y) (no-eight (y ∷ h) met-large n) in
       let e : answered (startOf a) (callsOf g) (callOf x) ≡ u =
-      ap (lastAnswer (startOf a)) same ∙ ap (λ (z : State). answered z (callsOf h) (callOf y)) smaller-start in
+      ap (lastOf (startOf a)) same ∙ ap (λ (z : State). answered z (callsOf h) (callOf y)) smaller-start in
       let p = answered-as a small begun-small g x met-small in
       let q = answered-as b large begun-large h y met-large in (
         p .content ∙ ap (λ (o : Outcome). over (o .report) (x .old)) e ∙ rw (s .report, old) refl ∙ sym (q .content),

@@ -7,3 +7,4 @@ pub mod Examples
 pub mod Possible
 pub mod Contracts
 pub mod Unique
+pub mod Drilled

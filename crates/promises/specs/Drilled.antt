@@ -1,0 +1,17 @@
+-- A drill as a program runs it: a start, and records in the order in which they are made, each with room for a report.
+use Prim.Native.Nat.{ℕ}
+use mathlib.Core.Path.{_≡_}
+use mathlib.Core.List.{List, reverse, map}
+use Rattle.controller.specs.declared.node.Started.{Started}
+use Rattle.controller.specs.Promise.{Begun}
+use Rattle.promises.specs.History.{Call, Made, callsOf, Met}
+
+-- The calls of the records, the latest first.
+abbrev pub callsFor : List (List ℕ) → List Call
+callsFor l = map (λ (b : List ℕ). record { bytes = b; room = 7 }) (reverse l)
+
+-- st is what start answered, and h are the calls made since; each met its contract.
+pub record Drilled (start : List ℕ) (l : List (List ℕ)) (st : Started) (h : List Made) : Type 0 where
+  pub begun : Begun start st
+  pub calls : callsOf h ≡ callsFor l
+  pub met : Met st h
