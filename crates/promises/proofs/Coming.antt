@@ -1,6 +1,6 @@
 -- Nodes that come from calls which meet their contracts. Assumes nothing.
 use Prim.Native.Nat.{ℕ}
-use mathlib.Core.Path.{_≡_, refl, sym, _∙_, ap}
+use mathlib.Core.Path.{_≡_, _∙_, ap}
 use mathlib.Core.List.{List, [], _∷_}
 use lib.ListN.{length}
 use Rattle.wire.specs.Report.{over}
@@ -9,13 +9,13 @@ use Rattle.settings.specs.Reading.{settingsIn}
 use Rattle.controller.specs.declared.node.Node.{Node}
 use Rattle.controller.specs.declared.node.Started.{Started}
 use Rattle.controller.specs.declared.record.Answer.{Answer}
-use Rattle.controller.specs.State.{State, started}
+use Rattle.controller.specs.State.{State}
 use Rattle.controller.specs.Record.{Outcome, outcome}
 use Rattle.controller.specs.Node.{choiceOf, stateOf, nodeOf, startedWith, answerOf, westRequest, eastRequest, steered, asked}
 use Rattle.controller.specs.Kept.{Kept}
 use Rattle.controller.specs.Promise.{Begun, Recorded}
 use Rattle.controller.proofs.Nodes.{state-of-node}
-use Rattle.promises.specs.History.{Call, after, answered, startOf, Made, callOf, callsOf, nodeAfter, Met, Ruled, AnsweredAs}
+use Rattle.promises.specs.History.{after, answered, startOf, Made, callOf, callsOf, nodeAfter, Met, Ruled, AnsweredAs}
 use Rattle.promises.proofs.Following.{choice-after}
 
 record Came (c : Settings) (n : Node) (s : State) : Type 0 where

@@ -9,6 +9,9 @@ use mathlib.Core.List.{List, [], _∷_}
 use lib.ListN.{length}
 use Rattle.settings.specs.Ranges.{defaults}
 use Rattle.blocks.specs.Types.{among}
+use Rattle.blocks.specs.declared.writing.Written.{Written}
+use Rattle.blocks.specs.Writing.{Wrote}
+use Rattle.blocks.proofs.RoundTrip.{refusal-leaves}
 use Rattle.controller.specs.State.{State, started}
 use Rattle.controller.specs.Record.{refusal, outcome}
 use Rattle.controller.specs.declared.node.Node.{Node}
@@ -98,3 +101,8 @@ begun-none-applies s b r h = rw (h .is) (start-none-applies s b)
 
 pub begun-refused-default : (b : List ℕ) (r : Started) → Begun b r → (r .result ≡ 0 → ⊥) → r .node ≡ nodeOf (defaults 0) (started (choiceOf (defaults 0)))
 begun-refused-default b r h = rw (h .is) (start-refused-default b)
+
+-- A block to be written that is refused: no byte is written, and the length is 0.
+pub unwritten-leaves : (level w0 w1 b0 b1 : ℕ) (old new : List ℕ) (w : Written) → Wrote level w0 w1 b0 b1 old new w → (w .result ≡ 0 → ⊥)
+    → (new ≡ old) × (w .length ≡ 0)
+unwritten-leaves = refusal-leaves

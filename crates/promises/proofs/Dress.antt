@@ -1,7 +1,7 @@
 -- What the rules do to stations has nothing to do with their attributes: each of them goes alike before and after the stations are dressed. Assumes nothing.
-use Prim.Native.Nat.{ℕ, zero, suc, _+_}
+use Prim.Native.Nat.{ℕ, zero, suc}
 use mathlib.Core.Path.{_≡_, refl, sym, _∙_, ap}
-use mathlib.Core.Bool.{Bool, true, false, not, cond, _&&_, _||_}
+use mathlib.Core.Bool.{Bool, true, false, not, cond, _||_}
 use mathlib.Core.List.{List, [], _∷_}
 use mathlib.Core.Option.{Option, none, some, Option·some-ne-none}
 use lib.ListN.{length}
@@ -14,7 +14,7 @@ use Rattle.stations.specs.declared.station.Report.{Report}
 use Rattle.stations.specs.Station.{hop, older, withHop, withAttributes, again, told, newcomer}
 use Rattle.stations.specs.Stations.{capacity, sifted, young, aged, unpurged, purged, otherAt, undisplaced, losing, displaced, renewed, inserted, given, present, sequenceOf, attributesOf}
 use Rattle.stations.specs.Hearing.{Placed, distance, heardAgain, placedKnown, placedNew, placedBy, placed}
-use Rattle.ways.specs.Walk.{Ends, Walk, held, onward, walk}
+use Rattle.ways.specs.Walk.{held, walk}
 use Rattle.ways.specs.Choice.{usable, way, hopOf}
 use Rattle.promises.specs.Levels.{dressed}
 

@@ -1,10 +1,9 @@
 -- A block's first mandatory type outside K, found by walking its entries, is the one that the walk of the rules finds. Assumes nothing.
 use Prim.Native.Nat.{ℕ}
-use mathlib.Core.Path.{_≡_, refl, sym, _∙_, ap}
-use mathlib.Core.Bool.{Bool, true, false, not, cond, _&&_, _||_, true≢false}
+use mathlib.Core.Path.{_≡_, refl, _∙_, ap}
+use mathlib.Core.Bool.{Bool, true, false, cond, _||_, true≢false}
 use mathlib.Core.List.{List, [], _∷_, _++_}
-use mathlib.Core.Option.{Option, none, some, Option·none-ne-some}
-use Rattle.blocks.specs.Types.{among}
+use mathlib.Core.Option.{some, Option·none-ne-some}
 use Rattle.blocks.specs.Entries.{Entry, entries}
 use Rattle.blocks.specs.Meaning.{behind}
 use Rattle.blocks.specs.Levels.{First}

@@ -14,11 +14,11 @@ use Rattle.controller.specs.declared.reading.Reading.{Reading}
 use Rattle.controller.specs.declared.reading.Reading.the-variants.{Refused, Tick, Link, Keepalive, Operator, Heard, Block}
 use Rattle.controller.specs.Reading.{blockOf, reading}
 use Rattle.controller.specs.State.{State, spanOf}
-use Rattle.controller.specs.Handling.{gives, learning, judged}
+use Rattle.controller.specs.Handling.{gives, learning}
 use Rattle.controller.specs.Record.{Outcome, closed, unlessRefused, outcomeOf, outcome}
 use Rattle.controller.proofs.Holding.{outcome-choice}
 use Rattle.promises.specs.History.{Call, after, answered}
-use Rattle.promises.specs.Levels.{NoEight, blockHeard, takenOrAside, newer, latestNow, latest, dressed, Levelled, attributesBy, under}
+use Rattle.promises.specs.Levels.{NoEight, blockHeard, takenOrAside, newer, latest, dressed, Levelled, attributesBy, under}
 use Rattle.promises.proofs.Step.{Alike, step}
 use Rattle.promises.proofs.Showing.{levelled}
 

@@ -1,12 +1,9 @@
 -- What demand 1 supposes does happen: closed examples for each supposition, by computation. Assumes nothing.
-use Prim.Native.Nat.{ℕ, zero, suc}
+use Prim.Native.Nat.{ℕ}
 use mathlib.Core.Path.{_≡_, refl}
-use mathlib.Core.Bool.{Bool, true, false, cond, _&&_, and-eq-true-iff}
+use mathlib.Core.Bool.{false, cond}
 use mathlib.Core.List.{List, [], _∷_, _++_, map}
-use native.Mathlib.Omega.{arith}
-use lib.Dec.{ltb}
-use borrow.Author.Tests.{ltb-true}
-use Rattle.wire.specs.Fields.{Bytes, addressAt}
+use Rattle.wire.specs.Fields.{addressAt}
 use Rattle.wire.specs.Head.{broken, headOf}
 use Rattle.wire.specs.Report.{over}
 use Rattle.settings.specs.Ticks.{ticksOf}
@@ -23,6 +20,8 @@ use Rattle.controller.specs.Node.{choiceOf, stateOf, nodeOf, answerOf, startedW
 use Rattle.controller.specs.Kept.{Kept}
 use Rattle.controller.specs.Promise.{Begun, Recorded}
 use Rattle.controller.proofs.Nodes.{answer-kept, started-with-kept}
+use Rattle.promises.specs.Possible.{areBytes}
+use Rattle.promises.proofs.Possible.{are-bytes}
 use Rattle.promises.specs.Examples.{address, tick, link, report, attributes, settings}
 use Rattle.promises.specs.Refusals.{Test, tests, startTests, NoneApplies, FirstApplies}
 use Rattle.promises.proofs.Order.{firstOf, found}
@@ -81,12 +80,12 @@ alone =
     ∷ case joined (attributes 2 (0 ∷ [])) 7 (8 ∷ []) 8
     ∷ []
 
--- .. and the first of several: no bytes and no room; a kind without a body; the own address from too far; a span that is down, an unknown station and a bad block.
+-- .. and the first of several: no bytes and no room; a wrong length; the own address from too far; a span that is down, an unknown station and a bad block.
 abbrev pub several : List Case
 several =
-    case fresh [] 0 (1 ∷ 2 ∷ 3 ∷ 4 ∷ []) 1
-    ∷ case fresh (2 ∷ 0 ∷ 7 ∷ 0 ∷ 0 ∷ []) 7 (2 ∷ 3 ∷ 4 ∷ []) 2
-    ∷ case fresh (2 ∷ 0 ∷ 7 ∷ 0 ∷ []) 7 (3 ∷ 4 ∷ []) 3
+    case fresh [] 0 (1 ∷ 2 ∷ 3 ∷ []) 1
+    ∷ case fresh (2 ∷ 0 ∷ 7 ∷ 0 ∷ 0 ∷ []) 7 (2 ∷ 3 ∷ []) 2
+    ∷ case fresh (2 ∷ 0 ∷ 1 ∷ 0 ∷ 0 ∷ []) 7 (2 ∷ 4 ∷ []) 2
     ∷ case fresh (report 0 0 1 1 0 0) 7 (4 ∷ 5 ∷ 6 ∷ []) 4
     ∷ case fresh (report 0 100 1 1 0 0) 7 (5 ∷ 6 ∷ []) 5
     ∷ case failed (attributes 1 []) 7 (5 ∷ 21 ∷ 7 ∷ []) 5
@@ -117,17 +116,6 @@ first-met = found (stateOf failed) (attributes 3 (0 ∷ [])) 7 tests
 pub none-met : NoneApplies tests (stateOf fresh) tick 7
 unfolding firstOf tests fresh
 none-met = found (stateOf fresh) tick 7 tests
-
--- A closed list is tested for being bytes.
-areBytes : List ℕ → Bool
-areBytes [] = true
-areBytes (x ∷ l) = ltb x 256 && areBytes l
-
-are-bytes : (l : List ℕ) → areBytes l ≡ true → Bytes l
-unfolding areBytes
-are-bytes [] h i = omega arith
-are-bytes (x ∷ l) h zero = ltb-true x 256 (and-eq-true-iff (ltb x 256) (areBytes l) .0 h .0)
-are-bytes (x ∷ l) h (suc i) = are-bytes l (and-eq-true-iff (ltb x 256) (areBytes l) .0 h .1) i
 
 -- A node that is kept, and a call that met its contract and was refused with 8: the same node, the same buffer.
 pub fresh-kept : Kept fresh

@@ -19,7 +19,7 @@ use Rattle.ways.specs.Walk.{Ends}
 use Rattle.ways.specs.Choice.{hopOf}
 use Rattle.controller.specs.State.{Choice, State, started}
 use Rattle.controller.specs.Node.{choiceOf, westRequest, eastRequest, steered}
-use Rattle.promises.specs.History.{Call, after, AllBytes}
+use Rattle.promises.specs.History.{after, AllBytes}
 use Rattle.promises.specs.Steering.{said, StandsAt, Clear}
 use Rattle.promises.specs.Drilled.{callsFor}
 use Rattle.promises.specs.Examples.{station, link, report, settings, ring}

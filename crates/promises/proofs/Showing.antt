@@ -3,7 +3,7 @@ use Prim.Native.Nat.{ℕ}
 use mathlib.Core.Path.{_≡_, refl, sym, _∙_, ap, subst}
 use mathlib.Core.Logic.{_↔_}
 use mathlib.Core.Bool.{Bool, true, false, cond}
-use mathlib.Core.List.{List, [], _∷_}
+use mathlib.Core.List.{List}
 use mathlib.Core.Option.{Option, none, some, Option·none-ne-some}
 use native.Mathlib.Omega.{arith}
 use lib.Dec.{eqb}
@@ -15,7 +15,6 @@ use Rattle.blocks.specs.Meaning.{Meaning, malformed, aside, shows, meaning, val
 use Rattle.blocks.specs.Attributes.{absent, valued, behindWith, attributesFrom}
 use Rattle.blocks.specs.Levels.{Sub, Fewer}
 use Rattle.blocks.proofs.Fewer.{fewer, values-kept}
-use Rattle.stations.specs.declared.station.Station.{Station}
 use Rattle.stations.specs.Stations.{present, attributesOf}
 use Rattle.ways.specs.Choice.{wayTo, hopOf}
 use Rattle.controller.specs.State.{State}

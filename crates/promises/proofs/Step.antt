@@ -1,7 +1,7 @@
 -- One record, at two nodes that differ in the types they know. Assumes nothing.
 use Prim.Native.Nat.{ℕ}
-use mathlib.Core.Path.{_≡_, refl, sym, _∙_, ap}
-use mathlib.Core.Bool.{Bool, true, false, cond, _||_}
+use mathlib.Core.Path.{_≡_, refl, _∙_, ap}
+use mathlib.Core.Bool.{Bool, true, false, cond}
 use mathlib.Core.List.{List}
 use mathlib.Core.Logic.{inl, inr}
 use mathlib.Core.Option.{Option, none, some}
@@ -17,15 +17,15 @@ use Rattle.blocks.specs.Levels.{Sub}
 use Rattle.blocks.proofs.Fewer.{fewer}
 use Rattle.stations.specs.declared.station.Station.{Station}
 use Rattle.stations.specs.declared.station.Report.{Report}
-use Rattle.stations.specs.Stations.{aged, purged, present, given}
-use Rattle.stations.specs.Hearing.{Placed, placed}
+use Rattle.stations.specs.Stations.{purged, present, given}
+use Rattle.stations.specs.Hearing.{Placed}
 use Rattle.controller.specs.declared.reading.Reading.{Reading}
 use Rattle.controller.specs.declared.reading.Reading.the-variants.{Refused, Tick, Link, Keepalive, Operator, Heard, Block}
 use Rattle.controller.specs.Reading.{blockOf}
-use Rattle.controller.specs.State.{Choice, Spans, State, spanOf}
-use Rattle.controller.specs.Handling.{acted, gives, hearing, resultOf, taking, learning, judged}
+use Rattle.controller.specs.State.{Spans, State, spanOf}
+use Rattle.controller.specs.Handling.{acted, gives, hearing, taking, learning, judged}
 use Rattle.controller.specs.Closing.{purgedIf, swept, isTick}
-use Rattle.controller.specs.Record.{Outcome, refusal, refuses, closed, unlessRefused, outcomeOf}
+use Rattle.controller.specs.Record.{Outcome, refusal, closed, unlessRefused, outcomeOf}
 use Rattle.promises.specs.Levels.{blockHeard, takenOrAside, newer, latestNow, knowing, dressed, SameResult, attributesBy, under}
 use Rattle.promises.proofs.Dress.{dressedPlaced, pickPlaced, present-dressed, aged-dressed, purged-dressed, given-dressed, same-dressed, placed-dressed}
 

@@ -21,7 +21,7 @@ use Rattle.controller.specs.State.{Spans, State}
 use Rattle.controller.specs.Handling.{acted, judged}
 use Rattle.controller.specs.Closing.{settled, pacing, isTick, reportOf}
 use Rattle.controller.specs.Record.{Outcome, refusal, refuses, closed, outcomeOf, outcome}
-use Rattle.controller.specs.Node.{stateOf, wrote, answerOf, westRequest, eastRequest}
+use Rattle.controller.specs.Node.{stateOf, wrote, westRequest, eastRequest}
 use Rattle.controller.specs.Promise.{Recorded}
 use Rattle.controller.proofs.Records.{over-none}
 

@@ -32,7 +32,8 @@ bodyFits b =
     (cond (isKind 2 b) (linkFits (bodyOf b))
     (cond (isKind 3 b) (keepaliveFits (bodyOf b))
     (cond (isKind 4 b) (operatorFits (bodyOf b))
-    (cond (isKind 5 b) (reportFits (bodyOf b)) (blockFits (bodyOf b))))))
+    (cond (isKind 5 b) (reportFits (bodyOf b))
+    (cond (isKind 6 b) (blockFits (bodyOf b)) true)))))
 
 abbrev pub isMalformed : Meaning → Bool
 isMalformed malformed = true

@@ -1,13 +1,12 @@
 -- What was last known of a station's requests, on the history, and the spans of a way.
 use Prim.Native.Nat.{ℕ, zero, suc, _<_}
 use mathlib.Core.Path.{_≡_}
-use mathlib.Core.Bool.{Bool, true, false, not, cond, _&&_}
+use mathlib.Core.Bool.{Bool, true, not, cond, _&&_}
 use mathlib.Core.List.{List, [], _∷_}
 use mathlib.Core.Option.{Option, none, some}
 use lib.Dec.{eqb}
 use Rattle.spans.specs.Codes.{SF}
 use Rattle.stations.specs.declared.station.Station.{Station}
-use Rattle.stations.specs.declared.station.Report.{Report}
 use Rattle.stations.specs.Stations.{present, sequenceOf}
 use Rattle.stations.specs.Hearing.{distance}
 use Rattle.ways.specs.Walk.{Ends, near, far}
