@@ -1,0 +1,128 @@
+//! The drill of a seed: settings, scenes on a ring, and one of several ends.
+
+use crate::chance::Chance;
+use crate::maker::Maker;
+use crate::plan::{self, Plan};
+use crate::records::{self, Bytes, LONGEST};
+use crate::scenes;
+use crate::wild;
+
+/// A drill as the settings and the records behind them; any of them may be damaged.
+#[derive(Clone, Debug, PartialEq, Eq)]
+pub struct Drill {
+    /// The first bytes.
+    pub settings: Bytes,
+    /// What follows them, one piece for each record.
+    pub records: Vec<Bytes>,
+}
+
+impl Drill {
+    /// The drill of this seed, the same on every machine.
+    pub fn of(seed: u64) -> Drill {
+        let mut chance = Chance::new(seed);
+        let refused = chance.percent(6);
+        let budget = match chance.below(10) {
+            0 => chance.range(50, 200),
+            1..=6 => chance.range(300, 1_200),
+            _ => chance.range(1_200, 2_500),
+        };
+        if refused {
+            let settings = plan::refused(&mut chance);
+            return play(chance, 30, Some(settings));
+        }
+        play(chance, budget, None)
+    }
+
+    /// All bytes of the drill.
+    pub fn bytes(&self) -> Bytes {
+        let mut bytes = self.settings.clone();
+        bytes.extend(self.records.iter().flatten());
+        bytes
+    }
+}
+
+/// Plays scenes until there are enough records. Empty settings end the input at once.
+fn play(mut chance: Chance, budget: usize, settings: Option<Bytes>) -> Drill {
+    let plan = Plan::new(&mut chance);
+    let small = chance.range(2, 8);
+    let large = chance.range(9, 63);
+    let stations = chance.pick(&[small, small, small, 1, large]);
+    let mut maker = Maker::new(chance, plan, stations);
+    while maker.records.len() < budget {
+        match maker.chance.below(10) {
+            0..=3 => maker.restore(),
+            4..=5 => maker.heal(),
+            _ => {}
+        }
+        let scene = scenes::any(&mut maker.chance);
+        scene(&mut maker);
+    }
+    end(&mut maker);
+    let settings = settings.unwrap_or_else(|| maker.plan.bytes());
+    let records = if settings.is_empty() {
+        Vec::new()
+    } else {
+        maker.records
+    };
+    Drill { settings, records }
+}
+
+/// Input stops between records, within one, or goes on behind a length that ends the drill.
+fn end(m: &mut Maker) {
+    match m.chance.below(10) {
+        0..=2 => {
+            let mut record = last_record(m);
+            let left = m.chance.range(1, record.len() - 1);
+            record.truncate(left);
+            m.give(record);
+        }
+        3 => {
+            let length = m.chance.pick(&[0_u16, 1, 1_034, 1_035, 4_096, 65_535]);
+            let mut record = last_record(m);
+            record[..2].copy_from_slice(&length.to_le_bytes());
+            m.give(record);
+            m.ask_around();
+        }
+        4 => {
+            // Bytes without any order, which may or may not look like records.
+            let count = m.chance.range(1, 60);
+            let bytes = (0..count).map(|_| m.chance.pick(&[0, 0, 0, 1, 2, 3, 4]));
+            let tail = bytes.collect();
+            m.give(tail);
+        }
+        _ => {}
+    }
+}
+
+/// Some record, now and then one of the longest.
+fn last_record(m: &mut Maker) -> Bytes {
+    if m.chance.percent(15) {
+        let kind = m.chance.pick(&[5, 6, 40, 99]);
+        return records::record(kind, &vec![0; LONGEST - 2]);
+    }
+    wild::event(m)
+}
+
+#[cfg(test)]
+mod tests {
+    use super::*;
+
+    #[test]
+    fn a_seed_gives_one_drill() {
+        assert_eq!(Drill::of(17), Drill::of(17));
+        assert_ne!(Drill::of(17), Drill::of(18));
+    }
+
+    #[test]
+    fn records_are_whole_up_to_the_last() {
+        for seed in 0..50 {
+            let drill = Drill::of(seed);
+            let whole = drill.records.len().saturating_sub(65);
+            for record in &drill.records[..whole] {
+                let length = u16::from_le_bytes([record[0], record[1]]);
+                assert_eq!(usize::from(length) + 2, record.len());
+                assert!(usize::from(length) <= LONGEST);
+            }
+        }
+    }
+}

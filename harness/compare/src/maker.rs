@@ -1,0 +1,144 @@
+//! The maker of a drill: it plays on a ring and writes down each record that it gives.
+//! It follows the keepalives so that a span goes down when a scene wants it, not by chance.
+
+use crate::chance::Chance;
+use crate::plan::Plan;
+use crate::records::{self, Bytes, Report};
+use crate::ring::Ring;
+
+/// No span, or every span, hears keepalives.
+pub const NONE_DEAF: [bool; 2] = [false, false];
+
+/// A drill in the making.
+pub struct Maker {
+    /// Where all choices come from.
+    pub chance: Chance,
+    /// The settings of the drill.
+    pub plan: Plan,
+    /// The ring as it is by now.
+    pub ring: Ring,
+    /// What has been given so far.
+    pub records: Vec<Bytes>,
+    /// Ticks since the last keepalive of each span.
+    silent: [u32; 2],
+}
+
+impl Maker {
+    /// A drill on a ring of this many stations beside the own one.
+    pub fn new(mut chance: Chance, plan: Plan, stations: usize) -> Maker {
+        let ring = Ring::new(&mut chance, plan.own, stations);
+        Maker {
+            chance,
+            plan,
+            ring,
+            records: Vec::new(),
+            silent: [0; 2],
+        }
+    }
+
+    /// Gives a record.
+    pub fn give(&mut self, record: Bytes) {
+        match record[..] {
+            [2, 0, 1, 0] => self.silent = self.silent.map(|ticks| ticks + 1),
+            [3, 0, 3, 0, span @ 0..=1] => self.silent[usize::from(span)] = 0,
+            _ => {}
+        }
+        self.records.push(record);
+    }
+
+    /// West or east.
+    pub fn span(&mut self) -> usize {
+        self.chance.below(2)
+    }
+
+    /// Passes ticks. Keepalives come just in time, save on a span that is deaf.
+    pub fn ticks(&mut self, count: usize, deaf: [bool; 2]) {
+        for _ in 0..count {
+            for (span, deaf) in deaf.into_iter().enumerate() {
+                let late = self.silent[span] + 1 >= u32::from(self.plan.keepalive);
+                if late && !deaf {
+                    self.give(records::keepalive(span as u8));
+                }
+            }
+            self.give(records::tick());
+        }
+    }
+
+    /// Lets the link of a span report a status.
+    pub fn link(&mut self, span: usize, status: u8) {
+        self.give(records::link(span as u8, status));
+    }
+
+    /// Lets the operator ask for something on a span.
+    pub fn operator(&mut self, span: usize, request: u8) {
+        self.give(records::operator(span as u8, request));
+    }
+
+    /// Hears a report.
+    pub fn hear(&mut self, report: &Report) {
+        self.give(records::report(report));
+    }
+
+    /// Hears a member on a ringlet, with nothing wrong.
+    pub fn hear_member(&mut self, at: usize, ringlet: usize) {
+        let report = self.ring.report(at, ringlet);
+        self.hear(&report);
+    }
+
+    /// Hears every member on a ringlet, in the order of hops or in any order.
+    pub fn announce(&mut self, ringlet: usize) {
+        let mut order: Vec<usize> = (0..self.ring.members.len()).collect();
+        if self.chance.percent(50) {
+            self.chance.shuffle(&mut order);
+        }
+        for at in order {
+            self.hear_member(at, ringlet);
+        }
+    }
+
+    /// Asks the way to an address.
+    pub fn ask(&mut self, address: u64) {
+        self.give(records::question(address));
+    }
+
+    /// Asks the way to a member.
+    pub fn ask_member(&mut self) {
+        let at = self.ring.any(&mut self.chance);
+        self.ask(self.ring.members[at].address);
+    }
+
+    /// Asks the way to some members, or to all of them.
+    pub fn ask_around(&mut self) {
+        if self.chance.percent(40) {
+            for at in 0..self.ring.members.len() {
+                self.ask(self.ring.members[at].address);
+            }
+        } else {
+            for _ in 0..self.chance.range(1, 5) {
+                self.ask_member();
+            }
+        }
+    }
+
+    /// Makes both spans good again: keepalives, links, cable, and mostly the operator.
+    pub fn heal(&mut self) {
+        let clear = self.chance.percent(75);
+        for span in 0..2 {
+            self.give(records::keepalive(span as u8));
+            self.link(span, 0);
+            let neighbour = self.ring.at_hop(1, span);
+            self.hear_member(neighbour, span);
+            if clear {
+                self.operator(span, 0);
+            }
+        }
+    }
+
+    /// Heals, and lets all members be heard both ways.
+    pub fn restore(&mut self) {
+        self.heal();
+        for ringlet in 0..2 {
+            self.announce(ringlet);
+        }
+    }
+}

@@ -1,0 +1,197 @@
+//! The other program: found, run on a drill in a file of its own, and given up on if it hangs.
+
+use std::env;
+use std::ffi::OsString;
+use std::fs::{self, File};
+use std::io::Read;
+use std::path::{Path, PathBuf};
+use std::process::{Child, Command, Stdio};
+use std::sync::mpsc;
+use std::thread;
+use std::time::Duration;
+
+/// How long one drill may take.
+const TIME_LIMIT: Duration = Duration::from_secs(120);
+/// The script that runs the proved program, from the root of the repository.
+const USUAL: [&str; 2] = ["drills", "run"];
+
+/// A command that takes a drill's path as its last argument.
+#[derive(Clone, Debug)]
+pub struct Program {
+    words: Vec<OsString>,
+}
+
+/// What a program said, and how it ended if not well.
+pub struct Said {
+    /// Standard output.
+    pub lines: Vec<u8>,
+    /// The exit status and the first line of standard error, if the status is not 0.
+    pub ended: Option<String>,
+}
+
+impl Program {
+    /// The command as given, or `drills/run` in this directory or the nearest above that has it.
+    pub fn find(given: Option<&str>) -> Result<Program, String> {
+        if let Some(command) = given {
+            return Program::of(command);
+        }
+        let here = env::current_dir().map_err(|error| format!("no current directory: {error}"))?;
+        let usual: PathBuf = USUAL.iter().collect();
+        let found = here.ancestors().map(|top| top.join(&usual));
+        match found.into_iter().find(|path| path.is_file()) {
+            Some(path) => Ok(Program {
+                words: vec![path.into_os_string()],
+            }),
+            None => Err(format!(
+                "no {} in this directory or above; name a command with --drill",
+                usual.display()
+            )),
+        }
+    }
+
+    /// A path that exists is the whole command; otherwise blanks part its words.
+    fn of(command: &str) -> Result<Program, String> {
+        let words: Vec<OsString> = if Path::new(command).is_file() {
+            // A bare name would be looked for among the installed programs.
+            let path = std::path::absolute(command);
+            vec![path.map_err(|error| error.to_string())?.into_os_string()]
+        } else {
+            command.split_whitespace().map(OsString::from).collect()
+        };
+        if words.is_empty() {
+            return Err("--drill needs a command".to_string());
+        }
+        Ok(Program { words })
+    }
+
+    /// Runs a drill in a desk's own files.
+    pub fn say(&self, drill: &[u8], desk: &Desk) -> Result<Said, String> {
+        let file = desk.write(drill)?;
+        let errors = desk.errors()?;
+        let mut child = self
+            .command(&file, errors)
+            .spawn()
+            .map_err(|error| format!("cannot run {}: {error}", self.name()))?;
+        let lines = match read_in_time(&mut child) {
+            Ok(lines) => lines,
+            Err(trouble) => {
+                // Whether it is still there does not matter any more.
+                let _ = child.kill();
+                let _ = child.wait();
+                return Err(format!("{}: {trouble}", self.name()));
+            }
+        };
+        let status = child
+            .wait()
+            .map_err(|error| format!("{}: {error}", self.name()))?;
+        let ended = (!status.success()).then(|| format!("{status}{}", desk.first_error()));
+        Ok(Said { lines, ended })
+    }
+
+    fn command(&self, file: &Path, errors: File) -> Command {
+        let mut command = Command::new(&self.words[0]);
+        command
+            .args(&self.words[1..])
+            .arg(file)
+            .stdin(Stdio::null())
+            .stdout(Stdio::piped())
+            .stderr(errors);
+        command
+    }
+
+    fn name(&self) -> String {
+        self.words[0].to_string_lossy().into_owned()
+    }
+}
+
+/// Reads standard output to its end, in a thread so that the wait can be cut short.
+fn read_in_time(child: &mut Child) -> Result<Vec<u8>, String> {
+    let Some(mut output) = child.stdout.take() else {
+        return Err("no output".to_string());
+    };
+    let (sender, receiver) = mpsc::channel();
+    thread::spawn(move || {
+        let mut lines = Vec::new();
+        let read = output.read_to_end(&mut lines).map(|_| lines);
+        // Nobody listens any more if the time is over.
+        let _ = sender.send(read);
+    });
+    match receiver.recv_timeout(TIME_LIMIT) {
+        Ok(read) => read.map_err(|error| format!("cannot read its output: {error}")),
+        Err(_) => Err(format!("no end after {} s", TIME_LIMIT.as_secs())),
+    }
+}
+
+/// A directory of one job: the drill it runs, and what the program complains about.
+pub struct Desk {
+    directory: PathBuf,
+}
+
+impl Desk {
+    fn write(&self, drill: &[u8]) -> Result<PathBuf, String> {
+        let file = self.directory.join("drill");
+        fs::write(&file, drill).map_err(|error| cannot("write", &file, &error))?;
+        Ok(file)
+    }
+
+    fn errors(&self) -> Result<File, String> {
+        let file = self.directory.join("errors");
+        File::create(&file).map_err(|error| cannot("write", &file, &error))
+    }
+
+    fn first_error(&self) -> String {
+        let errors = fs::read(self.directory.join("errors")).unwrap_or_default();
+        match String::from_utf8_lossy(&errors).lines().next() {
+            Some(line) => format!(": {line}"),
+            None => String::new(),
+        }
+    }
+}
+
+/// A directory for one run of this program; it goes with all that is in it.
+pub struct Room {
+    directory: PathBuf,
+}
+
+impl Room {
+    /// A directory that nobody else has.
+    pub fn new() -> Result<Room, String> {
+        Ok(Room {
+            directory: fresh_directory("compare")?,
+        })
+    }
+
+    /// The desk of a job.
+    pub fn desk(&self, job: usize) -> Result<Desk, String> {
+        let directory = self.directory.join(format!("job-{job}"));
+        fs::create_dir(&directory).map_err(|error| cannot("make", &directory, &error))?;
+        Ok(Desk { directory })
+    }
+}
+
+impl Drop for Room {
+    fn drop(&mut self) {
+        // Nothing depends on it; a directory that stays does no harm.
+        let _ = fs::remove_dir_all(&self.directory);
+    }
+}
+
+/// Makes a directory among the temporary ones that was not there before.
+pub fn fresh_directory(purpose: &str) -> Result<PathBuf, String> {
+    let top = env::temp_dir();
+    for number in 0..1_000 {
+        let name = format!("{purpose}-{}-{number}", std::process::id());
+        let directory = top.join(name);
+        match fs::create_dir(&directory) {
+            Ok(()) => return Ok(directory),
+            Err(error) if error.kind() == std::io::ErrorKind::AlreadyExists => {}
+            Err(error) => return Err(cannot("make", &directory, &error)),
+        }
+    }
+    Err(format!("no free name for a directory in {}", top.display()))
+}
+
+/// A message about a file.
+pub fn cannot(what: &str, path: &Path, error: &std::io::Error) -> String {
+    format!("cannot {what} {}: {error}", path.display())
+}

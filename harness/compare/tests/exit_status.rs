@@ -1,0 +1,169 @@
+//! The program as a whole: its exit status, what it leaves behind, and the drill it keeps.
+//! It plays the other program itself, right or with a fault, so no proved program is needed.
+
+use std::env;
+use std::fs;
+use std::path::{Path, PathBuf};
+use std::process::{Command, Output};
+
+const COMPARE: &str = env!("CARGO_BIN_EXE_compare");
+
+/// A directory of one test, removed at its end.
+struct Place(PathBuf);
+
+impl Place {
+    fn new(test: &str) -> Place {
+        let name = format!("compare-test-{test}-{}", std::process::id());
+        let place = env::temp_dir().join(name);
+        fs::create_dir_all(&place).unwrap();
+        Place(place)
+    }
+
+    fn is_empty(&self) -> bool {
+        fs::read_dir(&self.0).unwrap().next().is_none()
+    }
+
+    fn run(&self, arguments: &[&str]) -> Output {
+        Command::new(COMPARE)
+            .args(arguments)
+            .env("TMPDIR", &self.0)
+            .current_dir(&self.0)
+            .output()
+            .unwrap()
+    }
+}
+
+impl Drop for Place {
+    fn drop(&mut self) {
+        let _ = fs::remove_dir_all(&self.0);
+    }
+}
+
+/// The command line of a program with a fault.
+fn program(fault: &str) -> String {
+    format!("{COMPARE} --as {fault}")
+}
+
+fn said(output: &Output) -> String {
+    String::from_utf8_lossy(&output.stdout).into_owned()
+}
+
+fn complained(output: &Output) -> String {
+    String::from_utf8_lossy(&output.stderr).into_owned()
+}
+
+#[test]
+fn agreement_is_0_and_leaves_nothing() {
+    let place = Place::new("agree");
+    let right = program("nothing");
+    let output = place.run(&["--drill", &right, "--from", "40", "--count", "6"]);
+    assert_eq!(output.status.code(), Some(0), "{}", complained(&output));
+    assert!(said(&output).starts_with("drills 6, lines "));
+    assert!(place.is_empty());
+}
+
+#[test]
+fn time_ends_a_run() {
+    let place = Place::new("time");
+    let right = program("nothing");
+    let output = place.run(&["--drill", &right, "--seconds", "1", "--jobs", "1"]);
+    assert_eq!(output.status.code(), Some(0), "{}", complained(&output));
+    assert!(said(&output).contains("all agreed, seeds from 1"));
+}
+
+#[test]
+fn a_difference_is_1_and_the_short_drill_still_differs() {
+    let place = Place::new("differ");
+    let wrong = program("gaps-allowed");
+    let arguments = ["--drill", &wrong, "--count", "20", "--keep", "kept"];
+    let output = place.run(&arguments);
+    assert_eq!(output.status.code(), Some(1), "{}", complained(&output));
+    let text = said(&output);
+    assert!(text.contains("differs in line"), "{text}");
+    let files: Vec<_> = fs::read_dir(place.0.join("kept")).unwrap().collect();
+    assert_eq!(files.len(), 1);
+    let drill = files[0].as_ref().unwrap().path();
+    let speak = |fault: &str| said(&place.run(&["--as", fault, drill.to_str().unwrap()]));
+    assert_ne!(speak("nothing"), speak("gaps-allowed"));
+    assert!(speak("nothing").lines().count() < 10);
+}
+
+#[test]
+fn jobs_find_the_same_seed() {
+    let place = Place::new("jobs");
+    let wrong = program("unknown-before-down");
+    let first_line = |jobs: &str| {
+        let output = place.run(&["--drill", &wrong, "--count", "60", "--jobs", jobs]);
+        assert_eq!(output.status.code(), Some(1), "{}", complained(&output));
+        let text = said(&output);
+        let line = text.lines().find(|line| line.starts_with("seed "));
+        line.unwrap().to_string()
+    };
+    assert_eq!(first_line("1"), first_line("4"));
+}
+
+#[test]
+fn what_cannot_be_run_is_2() {
+    let place = Place::new("cannot");
+    let no_fault = program("unheard-of");
+    let commands = ["no/such/program", "true", "false", &no_fault, " "];
+    for command in commands {
+        let output = place.run(&["--drill", command, "--count", "3"]);
+        assert_eq!(output.status.code(), Some(2), "{command}");
+        assert!(complained(&output).starts_with("compare: "), "{command}");
+    }
+    assert!(place.is_empty());
+}
+
+#[test]
+fn bad_usage_is_2() {
+    let place = Place::new("usage");
+    for arguments in [&["--what"][..], &["--count", "many"], &["--from"]] {
+        let output = place.run(arguments);
+        assert_eq!(output.status.code(), Some(2));
+        assert!(complained(&output).contains("usage: compare"));
+    }
+    assert!(place.run(&["--help"]).status.success());
+}
+
+#[test]
+fn without_a_command_the_repository_is_searched() {
+    let place = Place::new("search");
+    // A temporary directory may lie below a repository; only then is there a command.
+    let above = place
+        .0
+        .ancestors()
+        .any(|top| top.join("drills/run").is_file());
+    if !above {
+        let output = place.run(&["--count", "1"]);
+        assert_eq!(output.status.code(), Some(2));
+        assert!(complained(&output).contains("name a command with --drill"));
+    }
+    write_script(&place.0);
+    let deep = place.0.join("a/b");
+    fs::create_dir_all(&deep).unwrap();
+    let output = Command::new(COMPARE)
+        .args(["--count", "2"])
+        .current_dir(&deep)
+        .output()
+        .unwrap();
+    assert_eq!(output.status.code(), Some(0), "{}", complained(&output));
+}
+
+/// A `drills/run` below a directory that speaks as the right model.
+fn write_script(top: &Path) {
+    use std::os::unix::fs::PermissionsExt;
+    fs::create_dir_all(top.join("drills")).unwrap();
+    let script = top.join("drills/run");
+    let text = format!("#!/bin/sh\nexec '{COMPARE}' --as nothing \"$1\"\n");
+    fs::write(&script, text).unwrap();
+    fs::set_permissions(&script, fs::Permissions::from_mode(0o755)).unwrap();
+}
+
+#[test]
+fn self_test_fails_if_there_are_too_few_drills() {
+    let place = Place::new("self");
+    let output = place.run(&["--self-test", "--count", "1"]);
+    assert_eq!(output.status.code(), Some(1));
+    assert!(said(&output).contains("NOT FOUND in 1 drills"));
+}

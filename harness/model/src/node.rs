@@ -1,0 +1,241 @@
+//! The node: start, one record at a time, steering, attributes.
+//! Refusals 1 to 8 change nothing; after every other result the closing steps run.
+
+use crate::blocks::{self, Attributes, Reading};
+use crate::faults::{wrong, Fault, RIGHT};
+use crate::pacer::Pacer;
+use crate::records::{self, Event, Report};
+use crate::settings::Settings;
+use crate::spans::{Request, Span};
+use crate::stations::Table;
+use crate::ways;
+
+/// The right model.
+pub type Node = NodeOf<RIGHT>;
+
+/// A controller with its state; `F` is the fault switch.
+#[derive(Clone, Debug)]
+pub struct NodeOf<const F: u8> {
+    settings: Settings,
+    spans: [Span; 2],
+    table: Table,
+    pacer: Pacer,
+}
+
+/// What is shown of a station's attributes; fields not used are 0.
+#[derive(Clone, Copy, Debug, Default, PartialEq, Eq)]
+pub struct Shown {
+    /// 0 with values, 1 behind, 3 not in the table.
+    pub reply: u8,
+    /// The type it is behind with.
+    pub behind: u16,
+    /// Two weights.
+    pub weights: [u8; 2],
+    /// Two reserved bandwidths.
+    pub bandwidths: [u16; 2],
+}
+
+impl<const F: u8> NodeOf<F> {
+    /// Starts a node from a settings record: 0, 2, 3 or 4. Refused, it has the defaults and address zero.
+    pub fn start(record: &[u8]) -> (u8, NodeOf<F>) {
+        let (result, settings) = match Settings::read(record) {
+            Ok(settings) => (records::TAKEN, settings),
+            Err(refusal) => (refusal, Settings::defaults(0)),
+        };
+        let node = NodeOf {
+            spans: [Span::new(), Span::new()],
+            table: Table::new(),
+            pacer: Pacer::new(&settings),
+            settings,
+        };
+        (result, node)
+    }
+
+    /// Takes one record: the result, and whether a report of 7 bytes was written.
+    pub fn record(&mut self, record: &[u8], out: &mut [u8]) -> (u8, bool) {
+        let Some(room) = out.first_chunk_mut() else {
+            return (records::NO_ROOM, false);
+        };
+        let event = match records::event(record) {
+            Ok(event) => event,
+            Err(refusal) => return (refusal, false),
+        };
+        let before = self.automatic();
+        let result = self.take(&event);
+        let unclosed = wrong::<F>(Fault::NotClosed) && result != records::TAKEN;
+        if records::is_refusal(result) || unclosed {
+            return (result, false);
+        }
+        let wrote = self.close(before, matches!(event, Event::Tick));
+        if wrote {
+            *room = records::report_to_send(self.pacer.sequence(), self.pacer.last());
+        }
+        (result, wrote)
+    }
+
+    fn automatic(&self) -> [Request; 2] {
+        let [west, east] = &self.spans;
+        [
+            west.automatic(&self.settings),
+            east.automatic(&self.settings),
+        ]
+    }
+
+    fn take(&mut self, event: &Event) -> u8 {
+        let settings = &self.settings;
+        match *event {
+            Event::Tick => {
+                for span in &mut self.spans {
+                    span.tick::<F>(settings);
+                }
+                self.table.tick::<F>(settings.forget);
+            }
+            Event::Link(at, status) => self.spans[at].link::<F>(status, settings),
+            Event::Keepalive(at) => self.spans[at].keepalive(),
+            Event::Operator(at, request) => self.spans[at].operator::<F>(request),
+            Event::Report(report) => return self.heard(&report),
+            Event::Attributes(at, address, block) => {
+                return self.attributes_heard(at, address, block)
+            }
+        }
+        records::TAKEN
+    }
+
+    /// The span is down: its automatic request is SF, whatever the operator asks.
+    fn is_down(&self, at: usize) -> bool {
+        let span = &self.spans[at];
+        let request = if wrong::<F>(Fault::OperatorDown) {
+            span.request(&self.settings)
+        } else {
+            span.automatic(&self.settings)
+        };
+        request >= Request::Sf
+    }
+
+    /// A report heard: refusals 5 and 6, steps (a) to (c), then the table's steps.
+    fn heard(&mut self, report: &Report) -> u8 {
+        let too_high = report.hop > records::HIGHEST_HOP;
+        if wrong::<F>(Fault::HopBeforeOwn) && too_high {
+            return records::HOP_TOO_HIGH;
+        }
+        if report.address == self.settings.address {
+            return records::OWN_ADDRESS;
+        }
+        if too_high {
+            return records::HOP_TOO_HIGH;
+        }
+        let was_down = wrong::<F>(Fault::MarkTooLate) && self.is_down(report.span);
+        let before = wrong::<F>(Fault::MarkUndone).then(|| self.spans.clone());
+        if report.hop == 1 {
+            self.spans[report.span].mark::<F>(report.ringlet != report.span);
+        }
+        if report.ringlet != report.span {
+            return records::WRONG_RINGLET;
+        }
+        if was_down || self.is_down(report.span) {
+            return records::SPAN_DOWN;
+        }
+        let result = self.table.heard::<F>(report);
+        match before {
+            Some(before) if result != records::TAKEN => self.spans = before,
+            _ => {}
+        }
+        result
+    }
+
+    /// Attributes heard: 5, 21, 7 and 8 in that order, then 24 or 0.
+    fn attributes_heard(&mut self, at: usize, address: u64, block: &[u8]) -> u8 {
+        if address == self.settings.address {
+            return records::OWN_ADDRESS;
+        }
+        let down = self.is_down(at);
+        if down && !wrong::<F>(Fault::UnknownBeforeDown) {
+            return records::SPAN_DOWN;
+        }
+        let Some(station) = self.table.find_mut(address) else {
+            return records::UNKNOWN_STATION;
+        };
+        if down {
+            return records::SPAN_DOWN;
+        }
+        let Reading::Whole(attributes) = blocks::read::<F>(self.settings.level, block) else {
+            return records::MALFORMED;
+        };
+        station.attributes = attributes;
+        if wrong::<F>(Fault::AttributesRenew) {
+            station.age = 0;
+        }
+        match attributes {
+            Attributes::Known(_) => records::TAKEN,
+            Attributes::Behind(_) => records::SET_ASIDE,
+        }
+    }
+
+    /// The closing steps: WTR, the purge, the report. True if a report is to be written.
+    fn close(&mut self, before: [Request; 2], tick: bool) -> bool {
+        for (span, before) in self.spans.iter_mut().zip(before) {
+            span.close(before, &self.settings);
+        }
+        for ringlet in 0..2 {
+            if self.is_down(ringlet) {
+                self.table.purge(ringlet);
+                if wrong::<F>(Fault::PurgeBoth) {
+                    self.table.purge(1 - ringlet);
+                }
+            }
+        }
+        let pair = self.own_pair();
+        self.pacer.step::<F>(pair, tick, &self.settings)
+    }
+
+    fn own_pair(&self) -> [Request; 2] {
+        let [west, east] = &self.spans;
+        [west.request(&self.settings), east.request(&self.settings)]
+    }
+
+    /// Which way to a station: 0 west, 1 east, 2 no way, 3 not in the table.
+    pub fn steer(&self, address: u64) -> u8 {
+        ways::steer::<F>(&self.table, self.own_pair(), address)
+    }
+
+    /// The attributes of a station.
+    pub fn attributes(&self, address: u64) -> Shown {
+        let nothing = Shown::default();
+        match self.table.find(address).map(|station| station.attributes) {
+            None => Shown {
+                reply: ways::NOT_IN_TABLE,
+                ..nothing
+            },
+            Some(Attributes::Behind(behind)) => Shown {
+                reply: 1,
+                behind,
+                ..nothing
+            },
+            Some(Attributes::Known(values)) => Shown {
+                weights: values.weights,
+                bandwidths: values.bandwidths,
+                ..nothing
+            },
+        }
+    }
+
+    /// The request on the west span.
+    pub fn west_request(&self) -> u8 {
+        self.spans[0].request(&self.settings) as u8
+    }
+
+    /// The request on the east span.
+    pub fn east_request(&self) -> u8 {
+        self.spans[1].request(&self.settings) as u8
+    }
+
+    /// The own sequence.
+    pub fn sequence(&self) -> u8 {
+        self.pacer.sequence()
+    }
+
+    /// Stations in the table.
+    pub fn station_count(&self) -> usize {
+        self.table.stations().len()
+    }
+}
