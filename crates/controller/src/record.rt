@@ -1,6 +1,8 @@
 // One record: read, handled, closed.
 use crate::act::act;
+use crate::close::Closed;
 use crate::close::is_tick;
+use crate::close::leaves_table;
 use crate::close::pace;
 use crate::close::settle;
 use crate::judge::judge;
@@ -18,8 +20,8 @@ ghost use Rattle.controller.specs.Node.{spansIn};
 ghost use Rattle.controller.specs.Promise.{Recorded};
 ghost use Rattle.controller.specs.Reading.{blockOf};
 ghost use Rattle.controller.specs.Record.{refusal};
-ghost use Rattle.controller.specs.Steps.{refusedWith, Advanced};
-ghost use Rattle.wire.specs.Report.{reportBytes, over};
+ghost use Rattle.controller.specs.Steps.{passing, reportIn, refusedWith, Advanced};
+ghost use Rattle.wire.specs.Report.{over};
 
 #[repr(C)]
 pub struct Answer {
@@ -46,6 +48,19 @@ fn sweep(table: Table, c: Core, t: Ticks) -> Table
     table
 }
 
+// The stations stay as they are, and no hop is purged: then the table need not be touched.
+fn passes(r: Reading, c: Core, t: Ticks) -> bool
+    ensures { λ q. ⌜ q ≡ passing t r (spansIn c) ⌝ }
+{
+    if spans::down(c.west, t) {
+        return false;
+    }
+    if spans::down(c.east, t) {
+        return false;
+    }
+    leaves_table(r)
+}
+
 // 1 to 8 are refusals.
 fn is_refusal(result: u8) -> bool
     ensures { λ r. ⌜ r ≡ refusal result ⌝ }
@@ -68,42 +83,48 @@ fn refuse(n: Node, result: u8) -> Answer
     }
 }
 
-// The report of a node's own requests, at the front of the output.
-fn send(out: &mut [u8], c: Core)
-    ensures { λ _. ⌜ now (out .exit) ≡ over (reportBytes (c .pacer .sequence) (c .pacer .west) (c .pacer .east)) (now (out .entry)) ⌝ }
+// The report that the closing steps give, at the front of the output.
+fn send(out: &mut [u8], z: Closed)
+    ensures { λ _. ⌜ now (out .exit) ≡ over (reportIn z) (now (out .entry)) ⌝ }
 {
-    let p = c.pacer;
-    wire::put_report(out, p.sequence, p.west, p.east);
+    if z.wrote {
+        let c = z.core;
+        let p = c.pacer;
+        wire::put_report(out, p.sequence, p.west, p.east);
+    }
 }
 
 // A record that was read, with the block that it may carry; its report goes to the front of the output.
-fn advance(n: Node, r: Reading, block: &[u8], out: &mut [u8]) -> Answer
+fn advance(mut n: Node, r: Reading, block: &[u8], out: &mut [u8]) -> Answer
     requires { ⌜ Kept n × ReadingKept (n .core .settings .address) r ⌝ }
     ensures { λ a. ⌜ Advanced n r (now (block .entry)) (now (out .entry)) (now (out .exit)) a ⌝ }
 {
     let c = n.core;
     let t = c.settings.ticks();
     let d = act(c, t, r);
+    let s = settle(d, c, t);
+    let z = pace(s, t, is_tick(r));
+    let core = z.core;
+    let wrote = z.wrote;
+    if passes(r, s, t) {
+        send(out, z);
+        n.core = core;
+        return Answer {
+            node: n,
+            result: 0,
+            wrote,
+        };
+    }
     let h = judge(n.table, d, t, r, block);
     if is_refusal(h.result) {
         return refuse(n, h.result);
     }
-    let s = settle(d, c, t);
-    let z = pace(s, t, is_tick(r));
+    send(out, z);
     let table = sweep(h.table, s, t);
-    let core = z.core;
-    if z.wrote {
-        send(out, core);
-        return Answer {
-            node: Node { core, table },
-            result: h.result,
-            wrote: true,
-        };
-    }
     Answer {
         node: Node { core, table },
         result: h.result,
-        wrote: false,
+        wrote,
     }
 }
 

@@ -1,5 +1,5 @@
 -- West first, then east, each only where its span is down. Assumes nothing.
-use mathlib.Core.Path.{_≡_, sym, _∙_}
+use mathlib.Core.Path.{sym, _∙_}
 use Rattle.stations.proofs.Hearings.{purged-kept}
 use Rattle.controller.specs.Node.{spansIn}
 use Rattle.controller.proofs.Sweeping.{swept-both, swept-west, swept-east, swept-none}

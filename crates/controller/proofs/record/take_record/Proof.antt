@@ -1,5 +1,4 @@
 -- Without room 1; else the record read, and its block. Assumes nothing.
-use mathlib.Core.Path.{_≡_}
 use Rattle.controller.proofs.ReadKept.{read-in-kept}
 use Rattle.controller.proofs.Records.{no-room, recorded}
 use borrow.Author.Needs.{needs}
