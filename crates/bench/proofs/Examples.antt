@@ -1,0 +1,55 @@
+-- A ring of three stations, by computation: its hops, what each record answers, and what each question. Assumes nothing.
+use Prim.Native.Nat.{ℕ, zero, suc}
+use mathlib.Core.Path.{_≡_, refl}
+use mathlib.Core.List.{List, [], _∷_}
+use Rattle.wire.specs.Fields.{addressAt}
+use Rattle.wire.specs.Head.{broken, headOf}
+use Rattle.wire.specs.Report.{reportBytes}
+use Rattle.settings.specs.Ticks.{ticksOf}
+use Rattle.settings.specs.Ranges.{inRange}
+use Rattle.settings.specs.Reading.{fieldsOf, fullIn, settingsIn}
+use Rattle.blocks.specs.Entries.{cut}
+use Rattle.blocks.specs.Types.{among, knows, good}
+use Rattle.blocks.specs.Meaning.{sound, known, has, behind}
+use Rattle.stations.specs.declared.station.Station.{Station}
+use Rattle.stations.specs.Table.{blank, tableOf}
+use Rattle.ways.specs.Choice.{number}
+use Rattle.controller.specs.declared.node.Node.{Node}
+use Rattle.controller.specs.Record.{outcome}
+use Rattle.controller.specs.Node.{stateOf, startedWith, steered}
+use Rattle.bench.specs.Records.{recordOf}
+use Rattle.bench.specs.Ring.{taken, joined, ringTo, ringOf, forced}
+use Rattle.bench.specs.Runs.{told, addressee, standing}
+
+unfoldable pub three : Node
+unfolding ringOf ringTo joined taken startedWith settingsIn headOf broken fullIn fieldsOf inRange addressAt tableOf ticksOf blank reportBytes outcome
+three = ringOf 3
+
+-- The hops of each station, ringlet 0 first.
+unfoldable pub hops : List Station → List ℕ
+hops [] = []
+hops (s ∷ l) = s .hop0 ∷ s .hop1 ∷ hops l
+
+-- What the first call of each record adds, for the numbers below n, the last first.
+unfoldable pub results : ℕ → List ℕ
+results zero = []
+results (suc n) = told (taken three (recordOf 3 n)) ∷ results n
+
+-- The replies to the questions below n, the last first.
+unfoldable pub replies : ℕ → List ℕ
+replies zero = []
+replies (suc n) = number (steered (stateOf (standing 3 n)) (addressee 3 n)) ∷ replies n
+
+pub three-around : hops (stateOf three .stations) ≡ 1 ∷ 3 ∷ 2 ∷ 2 ∷ 3 ∷ 1 ∷ []
+unfolding three hops
+three-around = refl
+
+-- Every record is taken but the empty one, which is refused with 2.
+pub three-results : results 9 ≡ 2 ∷ 0 ∷ 0 ∷ 0 ∷ 0 ∷ 0 ∷ 0 ∷ 0 ∷ 0 ∷ []
+unfolding three results recordOf cut sound known among knows good has behind
+three-results = refl
+
+-- No way where both spans are forced; nobody; east to the farthest on ringlet 0; west to the middle and to the nearest.
+pub three-replies : replies 5 ≡ 2 ∷ 3 ∷ 1 ∷ 0 ∷ 0 ∷ []
+unfolding three replies standing forced addressee steered
+three-replies = refl

@@ -1,0 +1,4 @@
+pub mod Packs
+pub mod Taking
+pub mod Turns
+pub mod Examples

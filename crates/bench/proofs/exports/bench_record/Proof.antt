@@ -1,0 +1,42 @@
+-- The run is that of the ring and of the record that the number picks. Assumes nothing.
+use lib.ListN.{length-take}
+use native.Mathlib.Omega.{arith}
+use borrow.Author.Needs.{needs}
+use Rattle.bench.proofs.exports.bench_record.Statement.{statement}
+use Rattle.bench.proofs.exports.bench_record.Tie as tie
+
+capped-requires : tie.Need-capped-requires
+capped-requires c κs = search needs
+
+record-of-requires : tie.Need-record-of-requires
+record-of-requires c κs = search needs
+
+ring-requires : tie.Need-ring-requires
+ring-requires c κs = search needs
+
+array-share-prefix-bytes : tie.Need-array-share-prefix-bytes
+array-share-prefix-bytes c = search needs
+
+slice-aggregate-carry : tie.Need-slice-aggregate-carry
+slice-aggregate-carry c = simp length-take (omega arith)
+
+carry-requires : tie.Need-carry-requires
+carry-requires c κs = search needs
+
+returns : tie.Need-returns
+returns c =
+    let picked = c .before .before .before .before in
+    rw (← picked .before .capped .ensures .0, ← picked .record-of .ensures .front, ← c .before .before .ring .ensures .same)
+    (c .carry .ensures)
+
+pub bench-record-spec : {M : Type 1} → statement M
+bench-record-spec =
+    tie.close
+    (tie.spec
+    capped-requires
+    record-of-requires
+    ring-requires
+    array-share-prefix-bytes
+    slice-aggregate-carry
+    carry-requires
+    returns)

@@ -1,0 +1,26 @@
+-- The run is that of the node and of the address that the number picks. Assumes nothing.
+use borrow.Author.Needs.{needs}
+use Rattle.bench.proofs.exports.bench_steer.Statement.{statement}
+use Rattle.bench.proofs.exports.bench_steer.Tie as tie
+
+capped-requires : tie.Need-capped-requires
+capped-requires c κs = search needs
+
+standing-requires : tie.Need-standing-requires
+standing-requires c κs = search needs
+
+addressee-requires : tie.Need-addressee-requires
+addressee-requires c κs = search needs
+
+steer-all-requires : tie.Need-steer-all-requires
+steer-all-requires c κs = search needs
+
+returns : tie.Need-returns
+returns c =
+    rw (← c .before .before .before .capped .ensures .0, ← c .before .before .standing .ensures .same, ← c .before .addressee .ensures)
+    (c .steer-all .ensures)
+
+pub bench-steer-spec : {M : Type 1} → statement M
+bench-steer-spec =
+    tie.close
+    (tie.spec capped-requires standing-requires addressee-requires steer-all-requires returns)

@@ -1,0 +1,39 @@
+-- What the runs add up.
+use Prim.Native.Nat.{ℕ, zero, suc, _+_}
+use mathlib.Core.Bool.{cond}
+use mathlib.Core.List.{List}
+use lib.Dec.{eqb, ltb}
+use Rattle.controller.specs.declared.node.Node.{Node}
+use Rattle.controller.specs.declared.record.Answer.{Answer}
+use Rattle.controller.specs.declared.ask.Shown.{Shown}
+use Rattle.bench.specs.Records.{middle}
+use Rattle.bench.specs.Ring.{taken, ringOf, forced}
+
+-- The result, and 256 for a report that was written.
+abbrev pub told : Answer → ℕ
+told a = a .result + cond (a .wrote) 256 0
+
+-- The same record so many times, each with the node that the one before left.
+unfoldable pub carried : List ℕ → ℕ → Node → ℕ
+carried b zero n = 0
+carried b (suc left) n = told (taken n b) + carried b left (taken n b .node)
+
+-- The reply to a question for attributes, and the first weight.
+abbrev pub weighed : Shown → ℕ
+weighed x = x .reply + x .weight0
+
+-- 02-00-00-00-01-k as a number.
+abbrev pub station : ℕ → ℕ
+station k = 2199023255808 + k
+
+-- Who is asked for: 0 the nearest on ringlet 0, 1 the middle, 2 the farthest on ringlet 0, 3 nobody, any other number the middle.
+unfoldable pub addressee : ℕ → ℕ → ℕ
+addressee stations which =
+    cond (eqb which 0) (station 1)
+    (cond (eqb which 1) (station (middle stations))
+    (cond (eqb which 2) (station stations)
+    (cond (eqb which 3) (station 255) (station (middle stations)))))
+
+-- The node that is asked: from 4 on with no way open.
+unfoldable pub standing : ℕ → ℕ → Node
+standing stations which = cond (ltb which 4) (ringOf stations) (forced (ringOf stations))

@@ -1,0 +1,106 @@
+// What a benchmark calls.
+use crate::records::middle;
+use crate::records::record_of;
+use crate::ring::capped;
+use crate::ring::force;
+use crate::ring::ring;
+use crate::runs::carry;
+use crate::runs::repeat;
+use crate::runs::show_all;
+use crate::runs::steer_all;
+use controller::Node;
+ghost use mathlib.Core.Path.{_≡_};
+ghost use Prim.Native.Nat.{_*_, _≤_};
+ghost use lib.ListN.{length};
+ghost use Rattle.ways.specs.Choice.{number};
+ghost use Rattle.controller.specs.Node.{stateOf, steered, asked};
+ghost use Rattle.bench.specs.Records.{recordOf};
+ghost use Rattle.bench.specs.Ring.{taken, Stands, capped, ringOf};
+ghost use Rattle.bench.specs.Runs.{told, carried, weighed, station, addressee, standing};
+
+// The ring alone: how many stations are in the table.
+#[no_mangle]
+pub extern "C" fn bench_setup(stations: u32) -> u64
+    ensures { λ r. ⌜ r ≡ length (stateOf (ringOf (capped stations)) .stations) ⌝ }
+{
+    controller::station_count(ring(capped(stations))) as u64
+}
+
+// The ring, then one record `calls` times, the node carried from call to call.
+// 0 tick, 1 keepalive, 2 a copy from the middle station, 3 a new station at the next hop (6 at 63 stations), 4 a new station at hop 1
+// (23 at 63 stations), 5 attributes, 6 link good, 7 operator none, any other number an empty record.
+// Ticks carried: at the 50th without a keepalive both spans go down and the table is emptied.
+#[no_mangle]
+pub extern "C" fn bench_record(stations: u32, which: u32, calls: u32) -> u64
+    ensures { λ r. ⌜ r ≡ carried (recordOf (capped stations) which) calls (ringOf (capped stations)) ⌝ }
+{
+    let s = capped(stations);
+    let chosen = record_of(s, which);
+    let bytes = chosen.bytes;
+    let end = chosen.length;
+    carry(ring(s), &bytes[..end], calls)
+}
+
+// The ring, then one record `calls` times, each with the ring's own node.
+#[no_mangle]
+pub extern "C" fn bench_record_again(stations: u32, which: u32, calls: u32) -> u64
+    ensures { λ r. ⌜ r ≡ calls * told (taken (ringOf (capped stations)) (recordOf (capped stations) which)) ⌝ }
+{
+    let s = capped(stations);
+    let chosen = record_of(s, which);
+    let bytes = chosen.bytes;
+    let end = chosen.length;
+    repeat(ring(s), &bytes[..end], calls)
+}
+
+// 02-00-00-00-01-k.
+fn station(k: u8) -> u64
+    ensures { λ r. ⌜ r ≡ station k ⌝ }
+{
+    2199023255808 + k as u64
+}
+
+// Who is asked for.
+fn addressee(stations: u8, which: u32) -> u64
+    requires { ⌜ stations ≤ 63 ⌝ }
+    ensures { λ r. ⌜ r ≡ addressee stations which ⌝ }
+{
+    match which {
+        0 => station(1),
+        1 => station(middle(stations)),
+        2 => station(stations),
+        3 => station(255),
+        _ => station(middle(stations)),
+    }
+}
+
+// The node that is asked.
+fn standing(stations: u8, which: u32) -> Node
+    requires { ⌜ stations ≤ 63 ⌝ }
+    ensures { λ r. ⌜ Stands (standing stations which) r ⌝ }
+{
+    let n = ring(stations);
+    if which < 4 {
+        return n;
+    }
+    force(n)
+}
+
+// The ring, then `calls` times the way to a station.
+// 0 the nearest on ringlet 0, 1 the middle, 2 the farthest on ringlet 0, 3 nobody, any other number the middle with FS on both spans.
+#[no_mangle]
+pub extern "C" fn bench_steer(stations: u32, which: u32, calls: u32) -> u64
+    ensures { λ r. ⌜ r ≡ calls * number (steered (stateOf (standing (capped stations) which)) (addressee (capped stations) which)) ⌝ }
+{
+    let s = capped(stations);
+    steer_all(standing(s, which), addressee(s, which), calls)
+}
+
+// The ring, then `calls` times the attributes of the same stations.
+#[no_mangle]
+pub extern "C" fn bench_attributes(stations: u32, which: u32, calls: u32) -> u64
+    ensures { λ r. ⌜ r ≡ calls * weighed (asked (stateOf (standing (capped stations) which)) (addressee (capped stations) which)) ⌝ }
+{
+    let s = capped(stations);
+    show_all(standing(s, which), addressee(s, which), calls)
+}

@@ -1,0 +1,107 @@
+// The loops of the runs: one record, or one question, many times.
+use crate::ring::take;
+use controller::Node;
+ghost use mathlib.Core.Path.{_≡_};
+ghost use mathlib.Core.Bool.{cond};
+ghost use Prim.Native.Nat.{_+_, _*_, _^_, _<_};
+ghost use Rattle.ways.specs.Choice.{number};
+ghost use Rattle.controller.specs.Kept.{Kept};
+ghost use Rattle.controller.specs.Node.{stateOf, steered, asked};
+ghost use Rattle.bench.specs.Ring.{taken};
+ghost use Rattle.bench.specs.Runs.{told, carried, weighed};
+
+// The result, and 256 for a report that was written.
+fn told(result: u8, wrote: bool) -> u64
+    ensures { λ r. ⌜ (r ≡ result + cond wrote 256 0) × (r < 512) ⌝ }
+{
+    if wrote {
+        return result as u64 + 256;
+    }
+    result as u64
+}
+
+// The same record many times, each with the node that the one before left.
+pub(crate) fn carry(start: Node, bytes: &[u8], calls: u32) -> u64
+    requires { ⌜ Kept start ⌝ }
+    ensures { λ r. ⌜ r ≡ carried (now (bytes .entry)) calls start ⌝ }
+{
+    let mut n = start;
+    let mut left = calls;
+    let mut sum: u64 = 0;
+    while 0 < left {
+        left -= 1;
+        let a = take(n, bytes);
+        sum += told(a.result, a.wrote);
+        let next = a.node;
+        n = next;
+    }
+    sum
+}
+
+// The same record many times, each with the same node.
+pub(crate) fn repeat(n: Node, bytes: &[u8], calls: u32) -> u64
+    requires { ⌜ Kept n ⌝ }
+    ensures { λ r. ⌜ r ≡ calls * told (taken n (now (bytes .entry))) ⌝ }
+{
+    let mut left = calls;
+    let mut sum: u64 = 0;
+    while 0 < left {
+        left -= 1;
+        let a = take(n, bytes);
+        sum += told(a.result, a.wrote);
+    }
+    sum
+}
+
+// The same address. It hangs on the sum, so that a compiler cannot ask once for all turns.
+fn still(address: u64, sum: u64) -> u64
+    requires { ⌜ sum < 2 ^ 41 ⌝ }
+    ensures { λ r. ⌜ r ≡ address ⌝ }
+{
+    address + sum / 2199023255552
+}
+
+// The number of the way to an address.
+fn way_number(n: Node, address: u64) -> u64
+    requires { ⌜ Kept n ⌝ }
+    ensures { λ r. ⌜ (r ≡ number (steered (stateOf n) address)) × (r < 512) ⌝ }
+{
+    ways::number(controller::steer(n, address)) as u64
+}
+
+// The way to an address, asked many times.
+pub(crate) fn steer_all(n: Node, address: u64, calls: u32) -> u64
+    requires { ⌜ Kept n ⌝ }
+    ensures { λ r. ⌜ r ≡ calls * number (steered (stateOf n) address) ⌝ }
+{
+    let mut left = calls;
+    let mut sum: u64 = 0;
+    while 0 < left {
+        left -= 1;
+        sum += way_number(n, still(address, sum));
+    }
+    sum
+}
+
+// The reply and the first weight of an address.
+fn shown_sum(n: Node, address: u64) -> u64
+    requires { ⌜ Kept n ⌝ }
+    ensures { λ r. ⌜ (r ≡ weighed (asked (stateOf n) address)) × (r < 512) ⌝ }
+{
+    let s = controller::attributes(n, address);
+    s.reply as u64 + s.weight0 as u64
+}
+
+// The attributes of an address, asked many times.
+pub(crate) fn show_all(n: Node, address: u64, calls: u32) -> u64
+    requires { ⌜ Kept n ⌝ }
+    ensures { λ r. ⌜ r ≡ calls * weighed (asked (stateOf n) address) ⌝ }
+{
+    let mut left = calls;
+    let mut sum: u64 = 0;
+    while 0 < left {
+        left -= 1;
+        sum += shown_sum(n, still(address, sum));
+    }
+    sum
+}
