@@ -47,9 +47,18 @@ impl Station {
 }
 
 /// All stations heard.
-#[derive(Clone, Debug)]
+#[derive(Debug)]
 pub struct Table {
     stations: Vec<Station>,
+}
+
+impl Clone for Table {
+    /// A clone has all its places set apart too, so that it never grows either.
+    fn clone(&self) -> Table {
+        let mut table = Table::new();
+        table.stations.extend_from_slice(&self.stations);
+        table
+    }
 }
 
 impl Table {
