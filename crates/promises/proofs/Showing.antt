@@ -76,6 +76,24 @@ module _ (K : List ℕ) (late : ℕ → Option (List ℕ)) (s : State) (sub : Su
       from b q u true e = rw (of-behind a t b q u)
       from b q u false e = absurd (Option·none-ne-some b (sym (none-else a e) ∙ q))
 
+  -- Who replies 1 says behind with a type, and nothing else.
+  says-behind : (a : ℕ) → asked (under K f s) a .reply ≡ 1 → asked (under K f s) a ≡ saysBehind (asked (under K f s) a .kind)
+  unfolding asked attributesBy
+  says-behind a h =
+      rw (attributes-dressed f a (s .stations)) (go (present a (s .stations)) (late a) (rw (attributes-dressed f a (s .stations)) at h))
+    where
+      at : (m : Meaning) → shown (some (attributesFrom m)) .reply ≡ 1
+          → shown (some (attributesFrom m)) ≡ saysBehind (shown (some (attributesFrom m)) .kind)
+      at malformed h = zero-one h
+      at (aside t) h = refl
+      at (shows es) h = zero-one h
+
+      go : (p : Bool) (o : Option (List ℕ)) → shown (cond p (some (attributesBy K o)) none) .reply ≡ 1
+          → shown (cond p (some (attributesBy K o)) none) ≡ saysBehind (shown (cond p (some (attributesBy K o)) none) .kind)
+      go true none h = zero-one h
+      go true (some b) h = at (meaning K b) h
+      go false o h = absurd (omega arith)
+
   -- Not behind: the same reply, and the same values of the types of K.
   pub record Same (x y : Shown) : Type 0 where
     reply : x .reply ≡ y .reply
@@ -148,6 +166,7 @@ module _ (K : List ℕ) (late : ℕ → Option (List ℕ)) (s : State) (sub : Su
     pacer = refl;
     steering = steered-under;
     behind = behind-both;
+    says = says-behind;
     reply = λ a n. same-asked own a n .reply;
     values = λ a n. same-asked own a n .values;
   })

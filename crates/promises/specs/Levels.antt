@@ -117,7 +117,8 @@ pub record Levelled (K : List ℕ) (late : ℕ → Option (List ℕ)) (x s : Sta
   pub steering : (a : ℕ) → steered x a ≡ steered s a
   -- "It says so exactly when there is such a block and it has such a type."
   pub behind : (a t : ℕ) → (asked x a ≡ saysBehind t) ↔ ((b : List ℕ) × (late a ≡ some b) × FirstUnknown K b t)
-  -- "For each station the smaller shows, for every type that it knows, the value the larger shows; or it says "behind""
+  -- "For each station the smaller shows, for every type that it knows, the value the larger shows; or it says "behind", with" a type, and nothing else.
+  pub says : (a : ℕ) → asked x a .reply ≡ 1 → asked x a ≡ saysBehind (asked x a .kind)
   pub reply : (a : ℕ) → (asked x a .reply ≡ 1 → ⊥) → asked x a .reply ≡ asked s a .reply
   pub values : (a : ℕ) → (asked x a .reply ≡ 1 → ⊥) → (t : ℕ) → among t K ≡ true → valueShown t (asked x a) ≡ valueShown t (asked s a)
 
