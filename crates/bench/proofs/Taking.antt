@@ -1,6 +1,6 @@
 -- Two records, one after the other. Assumes nothing.
 use Prim.Native.Nat.{ℕ}
-use mathlib.Core.Path.{_≡_, _∙_}
+use mathlib.Core.Path.{_∙_}
 use mathlib.Core.List.{List}
 use lib.ListN.{take}
 use Rattle.controller.specs.declared.node.Node.{Node}

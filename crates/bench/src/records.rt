@@ -1,6 +1,6 @@
 // The fixed records of the runs.
 ghost use mathlib.Core.Path.{_≡_};
-ghost use mathlib.Core.List.{[], _∷_};
+ghost use mathlib.Core.List.{_∷_};
 ghost use Prim.Native.Nat.{_+_, _-_, _≤_};
 ghost use lib.ListN.{replicate};
 ghost use Rattle.bench.specs.Records.{report, attributes, middle, recordOf, Holds};

@@ -1,14 +1,13 @@
 -- The own address, an odd one and a number of 2^48 or more are in no table, so they get "not in the table". Assumes nothing.
-use Prim.Native.Nat.{ℕ, _<_, _≤_, _^_}
+use Prim.Native.Nat.{ℕ, _≤_, _^_}
 use mathlib.Core.Path.{_≡_, refl, sym, _∙_, ap}
-use mathlib.Core.Bool.{Bool, true, false, cond, true≢false}
+use mathlib.Core.Bool.{true, false, true≢false}
 use mathlib.Core.List.{List, [], _∷_}
 use mathlib.Core.Logic.{_⊎_, ⊎-elim}
-use mathlib.Core.Option.{Option, none, some}
+use mathlib.Core.Option.{none}
 use native.Mathlib.Omega.{arith}
 use borrow.Author.Tests.{ne-eqb}
 use Rattle.wire.specs.Fields.{oddFirst}
-use Rattle.blocks.specs.declared.attributes.Attributes.{Attributes}
 use Rattle.stations.specs.declared.station.Station.{Station}
 use Rattle.stations.specs.Stations.{present, attributesOf}
 use Rattle.stations.specs.Table.{Each}
@@ -16,7 +15,7 @@ use Rattle.stations.specs.Kept.{StationKept}
 use Rattle.ways.specs.Choice.{wayTo}
 use Rattle.ways.specs.declared.choice.Reply.the-variants.{Unknown}
 use Rattle.controller.specs.State.{State}
-use Rattle.controller.specs.Node.{Shown, steered, shown, asked}
+use Rattle.controller.specs.Node.{steered, shown, asked}
 use Rattle.controller.specs.Kept.{StateKept}
 
 -- The address of no station that is kept.

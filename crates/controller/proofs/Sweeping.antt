@@ -1,7 +1,7 @@
 -- The purges of a record, ringlet by ringlet. Assumes nothing.
-use Prim.Native.Nat.{ℕ, _<_, _≤_, _-_}
-use mathlib.Core.Path.{_≡_, refl, sym, _∙_, ap}
-use mathlib.Core.Bool.{Bool, true, false, cond}
+use Prim.Native.Nat.{ℕ, _<_, _-_}
+use mathlib.Core.Path.{_≡_, _∙_, ap}
+use mathlib.Core.Bool.{true, false}
 use mathlib.Core.List.{List, []}
 use native.Mathlib.Omega.{arith}
 use lib.ListN.{length, take, drop, length-drop, drop-of-length-le}
@@ -11,7 +11,7 @@ use Rattle.spans.specs.Requests.{down}
 use Rattle.stations.specs.declared.table.Table.{Table}
 use Rattle.stations.specs.Stations.{purged}
 use Rattle.stations.specs.Table.{TableKept, live, tableOf}
-use Rattle.stations.proofs.Hearings.{purged-kept, purged-live}
+use Rattle.stations.proofs.Hearings.{purged-live}
 use Rattle.controller.specs.Reading.{blockOf}
 use Rattle.controller.specs.State.{Spans}
 use Rattle.controller.specs.Closing.{swept}

@@ -1,12 +1,10 @@
 -- The node as the program keeps it, and what its calls answer.
-use Prim.Native.Nat.{ℕ, _<_, _^_}
-use mathlib.Core.Path.{_≡_}
-use mathlib.Core.Bool.{Bool, true, false, not, cond, _&&_, _||_}
-use mathlib.Core.List.{List, []}
+use Prim.Native.Nat.{ℕ}
+use mathlib.Core.Bool.{Bool, cond}
+use mathlib.Core.List.{List}
 use mathlib.Core.Option.{Option, none, some}
 use lib.ListN.{length}
-use lib.Dec.{eqb, ltb}
-use Rattle.wire.specs.Report.{over}
+use lib.Dec.{ltb}
 use Rattle.settings.specs.declared.choice.Settings.{Settings}
 use Rattle.settings.specs.Ticks.{ticksOf}
 use Rattle.settings.specs.Reading.{settingsIn}
@@ -18,7 +16,7 @@ use Rattle.stations.specs.Table.{live, tableOf}
 use Rattle.ways.specs.declared.choice.Reply.{Reply}
 use Rattle.ways.specs.Choice.{wayTo}
 use Rattle.controller.specs.State.{Choice, Spans, State, started}
-use Rattle.controller.specs.Record.{Outcome, outcome}
+use Rattle.controller.specs.Record.{Outcome}
 pub use Rattle.controller.specs.declared.node.Core.{Core}
 pub use Rattle.controller.specs.declared.node.Node.{Node}
 pub use Rattle.controller.specs.declared.node.Started.{Started}

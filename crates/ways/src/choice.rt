@@ -5,7 +5,7 @@ use stations::Found;
 use stations::Table;
 ghost use mathlib.Core.Path.{_≡_};
 ghost use Rattle.stations.specs.Table.{TableKept, live};
-ghost use Rattle.ways.specs.Choice.{way, chosen, wayTo, number};
+ghost use Rattle.ways.specs.Choice.{way, wayTo, number};
 ghost use Rattle.ways.specs.Steps.{sideOf, betterOf, choiceOf};
 
 pub enum Reply {

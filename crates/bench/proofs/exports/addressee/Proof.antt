@@ -32,7 +32,9 @@ returns c = rw (c .before .match .keys1) (c .station .ensures)
 
 returns-2 : tie.Need-returns-2
 unfolding addressee
-returns-2 c = rw (c .before .before .match .keys2, ← c .before .middle .ensures) (c .station2 .ensures)
+returns-2 c =
+    let match = c .before .before .match in
+    rw (match .keys2, ← c .before .middle .ensures) (c .station2 .ensures)
 
 returns-3 : tie.Need-returns-3
 unfolding addressee

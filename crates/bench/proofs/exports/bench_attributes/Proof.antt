@@ -17,7 +17,9 @@ show-all-requires c κs = search needs
 
 returns : tie.Need-returns
 returns c =
-    rw (← c .before .before .before .capped .ensures .0, ← c .before .before .standing .ensures .same, ← c .before .addressee .ensures)
+    let capped = c .before .before .before .capped in
+    let standing = c .before .before .standing in
+    rw (← capped .ensures .0, ← standing .ensures .same, ← c .before .addressee .ensures)
     (c .show-all .ensures)
 
 pub bench-attributes-spec : {M : Type 1} → statement M

@@ -13,7 +13,9 @@ station-count-requires : tie.Need-station-count-requires
 station-count-requires c κs = search needs
 
 returns : tie.Need-returns
-returns c = rw (← c .before .before .capped .ensures .0, ← c .before .ring .ensures .same) (c .station-count .ensures)
+returns c =
+    let capped = c .before .before .capped in
+    rw (← capped .ensures .0, ← c .before .ring .ensures .same) (c .station-count .ensures)
 
 pub bench-setup-spec : {M : Type 1} → statement M
 bench-setup-spec =

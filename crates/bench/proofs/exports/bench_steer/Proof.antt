@@ -17,7 +17,9 @@ steer-all-requires c κs = search needs
 
 returns : tie.Need-returns
 returns c =
-    rw (← c .before .before .before .capped .ensures .0, ← c .before .before .standing .ensures .same, ← c .before .addressee .ensures)
+    let capped = c .before .before .before .capped in
+    let standing = c .before .before .standing in
+    rw (← capped .ensures .0, ← standing .ensures .same, ← c .before .addressee .ensures)
     (c .steer-all .ensures)
 
 pub bench-steer-spec : {M : Type 1} → statement M

@@ -17,7 +17,9 @@ force-requires c κs = search needs
 
 returns-2 : tie.Need-returns-2
 unfolding standing
-returns-2 c = rw (le-ltb _ _ (c .before .if1 .left), ← c .before .before .ring .ensures .same) (c .force .ensures)
+returns-2 c =
+    let ring = c .before .before .ring in
+    rw (le-ltb _ _ (c .before .if1 .left), ← ring .ensures .same) (c .force .ensures)
 
 pub standing-spec : {M : Type 1} → statement M
 standing-spec = tie.close (tie.spec ring-requires returns force-requires returns-2)

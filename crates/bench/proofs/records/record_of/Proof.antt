@@ -50,7 +50,10 @@ returns-2 c = rw (c .before .match .keys2) (holds _ (c .brief2 .ensures) refl (s
 
 returns-3 : tie.Need-returns-3
 unfolding recordOf
-returns-3 c = rw (c .before .before .before .match .keys3) (rw (c .before .before .middle .ensures, c .before .middle2 .ensures) at (c .report .ensures))
+returns-3 c =
+    let match = c .before .before .before .match in
+    let middle = c .before .before .middle in
+    rw (match .keys3) (rw (middle .ensures, c .before .middle2 .ensures) at (c .report .ensures))
 
 returns-4 : tie.Need-returns-4
 unfolding recordOf

@@ -36,7 +36,9 @@ loop-less c = search needs
 
 loop-again : tie.Need-loop-again Inv-loop μ-loop
 unfolding ringTo
-loop-again c = (omega arith, record { same = c .join .ensures .same ∙ rw (add-one, c .before .before .loop .inv .1 .same); kept = c .join .ensures .kept })
+loop-again c =
+    let loop = c .before .before .loop in
+    (omega arith, record { same = c .join .ensures .same ∙ rw (add-one, loop .inv .1 .same); kept = c .join .ensures .kept })
 
 returns : tie.Need-returns Inv-loop μ-loop
 unfolding ringOf

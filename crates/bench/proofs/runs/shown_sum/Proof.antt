@@ -17,7 +17,9 @@ add-result : tie.Need-add-result
 add-result c = search needs
 
 returns : tie.Need-returns
-returns c = (rw (← c .before .before .attributes .ensures), omega arith)
+returns c =
+    let attributes = c .before .before .attributes in
+    (rw (← attributes .ensures), omega arith)
 
 pub shown-sum-spec : {M : Type 1} → statement M
 shown-sum-spec =

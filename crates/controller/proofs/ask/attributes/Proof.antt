@@ -1,5 +1,5 @@
 -- The station found is the one of the address, or there is none. Assumes nothing.
-use mathlib.Core.Path.{_≡_, sym, _∙_}
+use mathlib.Core.Path.{sym, _∙_}
 use Rattle.stations.specs.Table.{live}
 use Rattle.stations.proofs.Places.{found-none, found-stands}
 use Rattle.controller.specs.Node.{asked}
@@ -17,18 +17,32 @@ enum-known-f : tie.Need-enum-known-f
 enum-known-f c = search needs
 
 attributes-at-requires : tie.Need-attributes-at-requires
-attributes-at-requires c κs = (c .before .before .before .before .pre .table)
+attributes-at-requires c κs =
+    let entry = c .before .before .before .before in
+    (entry .pre .table)
 
 shown-of-requires : tie.Need-shown-of-requires
 shown-of-requires c κs = search needs
 
 returns : tie.Need-returns
 unfolding asked
-returns c = rw (found-none (c .before .before .before .args .address) (live ((c .before .before .before .args .n) .table)) (sym (c .before .before .find-station .ensures) ∙ (c .enum-told .given .1)) .attributes)
+returns c =
+    let entry = c .before .before .before in
+    let find-station = c .before .before .find-station in
+    rw (found-none (entry .args .address) (live (entry .args .n .table)) (sym (find-station .ensures) ∙ (c .enum-told .given .1)) .attributes)
 
 returns-2 : tie.Need-returns-2
 unfolding asked
-returns-2 c = rw ((c .shown-of .ensures), (c .before .attributes-at .ensures), found-stands (c .before .before .before .before .before .before .args .address) (live ((c .before .before .before .before .before .before .args .n) .table)) _ (sym (c .before .before .before .before .before .find-station .ensures) ∙ (c .before .before .before .f .given .1)) .attributes)
+returns-2 c =
+    let entry = c .before .before .before .before .before .before in
+    let find-station = c .before .before .before .before .before .find-station in
+    let f = c .before .before .before .f in
+    rw (
+      (c .shown-of .ensures),
+      (c .before .attributes-at .ensures),
+      found-stands (entry .args .address) (live (entry .args .n .table)) _
+          (sym (find-station .ensures) ∙ (f .given .1)) .attributes,
+    )
 
 pub attributes-spec : {M : Type 1} → statement M
 attributes-spec =

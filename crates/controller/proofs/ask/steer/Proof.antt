@@ -14,11 +14,16 @@ request-requires-2 : tie.Need-request-requires-2
 request-requires-2 c κs = search needs
 
 way-to-requires : tie.Need-way-to-requires
-way-to-requires c κs = (c .before .before .before .before .pre .table)
+way-to-requires c κs =
+    let entry = c .before .before .before .before in
+    (entry .pre .table)
 
 returns : tie.Need-returns
 unfolding steered westRequest eastRequest
-returns c = rw ((c .way-to .ensures), (c .before .before .request .ensures), (c .before .request2 .ensures), (c .before .before .before .ticks .ensures))
+returns c =
+    let ticks = c .before .before .before .ticks in
+    let request = c .before .before .request in
+    rw ((c .way-to .ensures), (request .ensures), (c .before .request2 .ensures), (ticks .ensures))
 
 pub steer-spec : {M : Type 1} → statement M
 steer-spec =

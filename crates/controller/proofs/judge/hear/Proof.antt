@@ -16,14 +16,22 @@ same-requires c κs = search needs
 
 returns : tie.Need-returns
 unfolding hearing
-returns c = rw ((c .same .ensures), eq-eqb _ _ (c .before .before .before .before .if1 .taken), ← (c .before .before .before .span-of .ensures), ← (c .before .before .down .ensures), (c .before .if2 .taken))
+returns c =
+    let if1 = c .before .before .before .before .if1 in
+    let span-of = c .before .before .before .span-of in
+    let down = c .before .before .down in
+    rw ((c .same .ensures), eq-eqb _ _ (if1 .taken), ← (span-of .ensures), ← (down .ensures), (c .before .if2 .taken))
 
 hear-report-requires : tie.Need-hear-report-requires
 hear-report-requires c κs = search needs
 
 returns-2 : tie.Need-returns-2
 unfolding hearing
-returns-2 c = rw ((c .hear-report .ensures), eq-eqb _ _ (c .before .before .before .before .if1 .taken), ← (c .before .before .before .span-of .ensures), ← (c .before .before .down .ensures), (c .before .if2 .left))
+returns-2 c =
+    let if1 = c .before .before .before .before .if1 in
+    let span-of = c .before .before .before .span-of in
+    let down = c .before .before .down in
+    rw ((c .hear-report .ensures), eq-eqb _ _ (if1 .taken), ← (span-of .ensures), ← (down .ensures), (c .before .if2 .left))
 
 same-requires-2 : tie.Need-same-requires-2
 same-requires-2 c κs = search needs

@@ -14,7 +14,9 @@ enum-told : tie.Need-enum-told
 enum-told c = search needs
 
 forget-requires : tie.Need-forget-requires
-forget-requires c κs = ((c .before .before .before .pre .0), (c .before .before .before .pre .2))
+forget-requires c κs =
+    let entry = c .before .before .before in
+    ((entry .pre .0), (entry .pre .2))
 
 enum-told-2 : tie.Need-enum-told-2
 enum-told-2 c = search needs
@@ -48,11 +50,15 @@ learn-requires c κs = search needs
 
 returns : tie.Need-returns
 unfolding judged
-returns c = rw ((c .same .ensures), (c .before .before .r .given .1))
+returns c =
+    let r = c .before .before .r in
+    rw ((c .same .ensures), (r .given .1))
 
 returns-2 : tie.Need-returns-2
 unfolding judged
-returns-2 c = rw ((c .forget .ensures), (c .before .enum-told .given .1), (c .before .before .before .before .pre .1))
+returns-2 c =
+    let entry = c .before .before .before .before in
+    rw ((c .forget .ensures), (c .before .enum-told .given .1), (entry .pre .1))
 
 returns-3 : tie.Need-returns-3
 unfolding judged
@@ -68,11 +74,17 @@ returns-5 c = rw ((c .same4 .ensures), (c .before .enum-told4 .given .1))
 
 returns-6 : tie.Need-returns-6
 unfolding judged
-returns-6 c = rw ((c .hear .ensures), (c .before .before .r2 .given .1), (c .before .before .before .before .before .pre .1))
+returns-6 c =
+    let entry = c .before .before .before .before .before in
+    let r2 = c .before .before .r2 in
+    rw ((c .hear .ensures), (r2 .given .1), (entry .pre .1))
 
 returns-7 : tie.Need-returns-7
 unfolding judged
-returns-7 c = rw ((c .learn .ensures), (c .before .before .r3 .given .1), (c .before .before .before .before .before .pre .1))
+returns-7 c =
+    let entry = c .before .before .before .before .before in
+    let r3 = c .before .before .r3 in
+    rw ((c .learn .ensures), (r3 .given .1), (entry .pre .1))
 
 pub judge-spec : {M : Type 1} → statement M
 judge-spec =

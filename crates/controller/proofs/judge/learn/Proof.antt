@@ -1,5 +1,5 @@
 -- 21, then 7, then the block. Assumes nothing.
-use mathlib.Core.Path.{_≡_, sym, _∙_}
+use mathlib.Core.Path.{sym, _∙_}
 use Rattle.stations.specs.Table.{live}
 use Rattle.stations.proofs.Places.{found-none, found-stands}
 use Rattle.controller.specs.Handling.{learning}
@@ -18,7 +18,10 @@ same-requires c κs = search needs
 
 returns : tie.Need-returns
 unfolding learning
-returns c = rw ((c .same .ensures), ← (c .before .before .before .span-of .ensures), ← (c .before .before .down .ensures), (c .before .if1 .taken))
+returns c =
+    let span-of = c .before .before .before .span-of in
+    let down = c .before .before .down in
+    rw ((c .same .ensures), ← (span-of .ensures), ← (down .ensures), (c .before .if1 .taken))
 
 find-station-requires : tie.Need-find-station-requires
 find-station-requires c κs = search needs
@@ -37,11 +40,37 @@ read-in-requires c κs = search needs
 
 returns-2 : tie.Need-returns-2
 unfolding learning
-returns-2 c = rw ((c .same2 .ensures), ← (c .before .before .before .before .before .before .span-of .ensures), ← (c .before .before .before .before .before .down .ensures), (c .before .before .before .before .if1 .left), found-none (c .before .before .before .before .before .before .before .before .args .address) (live (c .before .before .before .before .before .before .before .before .args .table)) (sym (c .before .before .before .find-station .ensures) ∙ (c .before .enum-told .given .1)) .there)
+returns-2 c =
+    let entry = c .before .before .before .before .before .before .before .before in
+    let span-of = c .before .before .before .before .before .before .span-of in
+    let down = c .before .before .before .before .before .down in
+    let if1 = c .before .before .before .before .if1 in
+    let find-station = c .before .before .before .find-station in
+    rw (
+      (c .same2 .ensures),
+      ← (span-of .ensures),
+      ← (down .ensures),
+      (if1 .left),
+      found-none (entry .args .address) (live (entry .args .table))
+          (sym (find-station .ensures) ∙ (c .before .enum-told .given .1)) .there,
+    )
 
 returns-3 : tie.Need-returns-3
 unfolding learning
-returns-3 c = rw ((c .read-in .ensures), ← (c .before .before .before .before .before .before .span-of .ensures), ← (c .before .before .before .before .before .down .ensures), (c .before .before .before .before .if1 .left), found-stands (c .before .before .before .before .before .before .before .before .args .address) (live (c .before .before .before .before .before .before .before .before .args .table)) _ (sym (c .before .before .before .find-station .ensures) ∙ (c .before .enum-told2 .given .1)) .there)
+returns-3 c =
+    let entry = c .before .before .before .before .before .before .before .before in
+    let span-of = c .before .before .before .before .before .before .span-of in
+    let down = c .before .before .before .before .before .down in
+    let if1 = c .before .before .before .before .if1 in
+    let find-station = c .before .before .before .find-station in
+    rw (
+      (c .read-in .ensures),
+      ← (span-of .ensures),
+      ← (down .ensures),
+      (if1 .left),
+      found-stands (entry .args .address) (live (entry .args .table)) _
+          (sym (find-station .ensures) ∙ (c .before .enum-told2 .given .1)) .there,
+    )
 
 pub learn-spec : {M : Type 1} → statement M
 learn-spec =

@@ -1,5 +1,5 @@
 -- The three answers of the reader are the three meanings of a block. Assumes nothing.
-use mathlib.Core.Path.{_≡_, sym, _∙_, ap}
+use mathlib.Core.Path.{sym, _∙_, ap}
 use Rattle.blocks.specs.Types.{knows}
 use Rattle.blocks.specs.Meaning.{meaning, blockAt}
 use Rattle.stations.specs.Table.{live, hearingOf}
@@ -34,15 +34,29 @@ give-requires-2 c κs = search needs
 
 returns : tie.Need-returns
 unfolding blockAt
-returns c = (c .same .ensures) ∙ ap hearingOf (sym (taking-malformed (c .before .before .before .before .before .args .address) (live (c .before .before .before .before .before .args .table)) (meaning (knows (c .before .before .before .before .before .args .level)) ((c .before .before .before .before .before .args .block) .now)) (sym (c .before .before .before .read-block .ensures) ∙ (c .before .enum-told .given .1))))
+returns c =
+    let entry = c .before .before .before .before .before in
+    let read-block = c .before .before .before .read-block in
+    (c .same .ensures) ∙ ap hearingOf (sym
+    (taking-malformed (entry .args .address) (live (entry .args .table)) (meaning (knows (entry .args .level)) (entry .args .block .now)) (sym (read-block .ensures) ∙ (c .before .enum-told .given .1))))
 
 returns-2 : tie.Need-returns-2
 unfolding blockAt
-returns-2 c = (c .give .ensures) ∙ rw (c .before .behind-with .ensures) (ap hearingOf (sym (taking-aside (c .before .before .before .before .before .before .before .args .address) (live (c .before .before .before .before .before .before .before .args .table)) (meaning (knows (c .before .before .before .before .before .before .before .args .level)) ((c .before .before .before .before .before .before .before .args .block) .now)) _ (sym (c .before .before .before .before .before .read-block .ensures) ∙ (c .before .before .before .read .given .1)))))
+returns-2 c =
+    let entry = c .before .before .before .before .before .before .before in
+    let read-block = c .before .before .before .before .before .read-block in
+    let read = c .before .before .before .read in
+    (c .give .ensures) ∙ rw (c .before .behind-with .ensures) (ap hearingOf
+    (sym (taking-aside (entry .args .address) (live (entry .args .table)) (meaning (knows (entry .args .level)) (entry .args .block .now)) _ (sym (read-block .ensures) ∙ (read .given .1)))))
 
 returns-3 : tie.Need-returns-3
 unfolding blockAt
-returns-3 c = (c .give2 .ensures) ∙ ap hearingOf (sym (taking-values (c .before .before .before .before .before .before .args .address) (live (c .before .before .before .before .before .before .args .table)) (meaning (knows (c .before .before .before .before .before .before .args .level)) ((c .before .before .before .before .before .before .args .block) .now)) _ _ _ _ (sym (c .before .before .before .before .read-block .ensures) ∙ (c .before .before .read2 .given .1))))
+returns-3 c =
+    let entry = c .before .before .before .before .before .before in
+    let read-block = c .before .before .before .before .read-block in
+    let read2 = c .before .before .read2 in
+    (c .give2 .ensures) ∙ ap hearingOf (sym
+    (taking-values (entry .args .address) (live (entry .args .table)) (meaning (knows (entry .args .level)) (entry .args .block .now)) _ _ _ _ (sym (read-block .ensures) ∙ (read2 .given .1))))
 
 pub read-in-spec : {M : Type 1} → statement M
 read-in-spec =

@@ -1,7 +1,6 @@
 -- A kept table is that of its stations. Assumes nothing.
-use mathlib.Core.Path.{_≡_, ap}
+use mathlib.Core.Path.{ap}
 use Rattle.stations.specs.declared.table.Table.{Table}
-use Rattle.stations.specs.declared.hear.Hearing.{Hearing}
 use Rattle.controller.proofs.judge.same.Statement.{statement}
 use Rattle.controller.proofs.judge.same.Tie as tie
 

@@ -26,7 +26,15 @@ empty-requires c κs = search needs
 
 returns : tie.Need-returns
 unfolding startedWith started
-returns c = begun ((c .before .before .before .before .before .before .before .before .args .bytes) .now) _ (λ i. (c .before .before .before .before .before .before .before .shared-slice-known .given) i .fits) (rw ((c .empty .ensures), (c .before .at-start3 .ensures), (c .before .before .at-start2 .ensures), (c .before .before .before .at-start .ensures), (c .before .before .before .before .ticks .ensures), (c .before .before .before .before .before .before .read-settings .ensures)))
+returns c =
+    let entry = c .before .before .before .before .before .before .before .before in
+    let shared-slice-known = c .before .before .before .before .before .before .before .shared-slice-known in
+    let read-settings = c .before .before .before .before .before .before .read-settings in
+    let ticks = c .before .before .before .before .ticks in
+    let at-start = c .before .before .before .at-start in
+    let at-start2 = c .before .before .at-start2 in
+    begun (entry .args .bytes .now) _ (λ i. (shared-slice-known .given) i .fits) (rw
+    ((c .empty .ensures), (c .before .at-start3 .ensures), (at-start2 .ensures), (at-start .ensures), (ticks .ensures), (read-settings .ensures)))
 
 pub start-spec : {M : Type 1} → statement M
 start-spec =

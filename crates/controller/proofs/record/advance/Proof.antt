@@ -30,10 +30,29 @@ same-length : tie.Need-same-length
 same-length c = search needs
 
 returns : tie.Need-returns
-returns c = passed ((c .before .before .before .before .before .before .before .before .before .before .before .before .before .before .before .args .n)) ((c .before .before .before .before .before .before .before .before .before .before .before .before .before .before .before .pre) .0) ((c .before .before .before .before .before .before .before .before .before .before .before .before .before .before .before .args .r)) (((c .before .before .before .before .before .before .before .before .before .before .before .before .before .before .before .args .block)) .now) ((c .before .before .before .before .before .before .before .before .before .before .before .ticks .ensures)) ((c .before .before .before .before .before .before .before .before .before .before .act .ensures)) ((c .before .before .before .before .before .before .before .before .before .settle .ensures)) ((c .before .before .before .before .before .before .before .before .is-tick .ensures)) ((c .before .before .before .before .before .before .before .pace .ensures)) (sym ((c .before .before .before .before .before .passes .ensures)) ∙ ((c .before .before .before .before .if1 .taken))) (((c .before .before .before .before .before .before .before .before .before .before .before .before .before .before .before .args .out)) .now) _ ((c .before .before .send .ensures))
+returns c =
+    let entry = c .before .before .before .before .before .before .before .before .before .before .before .before .before .before .before in
+    let ticks = c .before .before .before .before .before .before .before .before .before .before .before .ticks in
+    let act = c .before .before .before .before .before .before .before .before .before .before .act in
+    let settle = c .before .before .before .before .before .before .before .before .before .settle in
+    let is-tick = c .before .before .before .before .before .before .before .before .is-tick in
+    let pace = c .before .before .before .before .before .before .before .pace in
+    let passes = c .before .before .before .before .before .passes in
+    let if1 = c .before .before .before .before .if1 in
+    let send = c .before .before .send in
+    passed (entry .args .n) (entry .pre .0) (entry .args .r) (entry .args .block .now) (ticks .ensures) (act .ensures) (settle .ensures)
+    (is-tick .ensures) (pace .ensures) (sym (passes .ensures) ∙ (if1 .taken)) (entry .args .out .now) _ (send .ensures)
 
 judge-requires : tie.Need-judge-requires
-judge-requires c κs = (((c .before .before .before .before .before .before .before .before .before .before .before .pre) .0) .table, rw ((c .before .before .before .before .before .before .act .ensures)) ((c .before .before .before .before .before .before .before .ticks .ensures)), forget-fits ((c .before .before .before .before .before .before .before .before .before .before .before .args .n)) ((c .before .before .before .before .before .before .before .before .before .before .before .pre) .0) ((c .before .before .before .before .before .before .before .before .before .before .before .args .r)) (((c .before .before .before .before .before .before .before .before .before .before .before .args .block)) .now) ((c .before .before .before .before .before .before .before .ticks .ensures)))
+judge-requires c κs =
+    let entry = c .before .before .before .before .before .before .before .before .before .before .before in
+    let ticks = c .before .before .before .before .before .before .before .ticks in
+    let act = c .before .before .before .before .before .before .act in (
+      (entry .pre .0) .table,
+      rw (act .ensures) (ticks .ensures),
+      forget-fits (entry .args .n) (entry .pre .0) (entry .args .r) (entry .args .block .now)
+          (ticks .ensures),
+    )
 
 is-refusal-requires : tie.Need-is-refusal-requires
 is-refusal-requires c κs = search needs
@@ -42,19 +61,46 @@ refuse-requires : tie.Need-refuse-requires
 refuse-requires c κs = search needs
 
 returns-2 : tie.Need-returns-2
-returns-2 c = rw ((c .refuse .ensures)) (refused ((c .before .before .before .before .before .before .before .before .before .before .before .before .before .before .before .args .n)) ((c .before .before .before .before .before .before .before .before .before .before .before .before .before .before .before .pre) .0) ((c .before .before .before .before .before .before .before .before .before .before .before .before .before .before .before .args .r)) (((c .before .before .before .before .before .before .before .before .before .before .before .before .before .before .before .args .block)) .now) ((c .before .before .before .before .before .before .before .before .before .before .before .ticks .ensures)) ((c .before .before .before .before .before .before .before .before .before .before .act .ensures)) ((c .before .before .before .judge .ensures)) (sym ((c .before .before .is-refusal .ensures)) ∙ ((c .before .if2 .taken))) (((c .before .before .before .before .before .before .before .before .before .before .before .before .before .before .before .args .out)) .now))
+returns-2 c =
+    let entry = c .before .before .before .before .before .before .before .before .before .before .before .before .before .before .before in
+    let ticks = c .before .before .before .before .before .before .before .before .before .before .before .ticks in
+    let act = c .before .before .before .before .before .before .before .before .before .before .act in
+    let judge = c .before .before .before .judge in
+    let is-refusal = c .before .before .is-refusal in
+    rw (c .refuse .ensures) (refused (entry .args .n) (entry .pre .0) (entry .args .r) (entry .args .block .now) (ticks .ensures) (act .ensures)
+    (judge .ensures) (sym (is-refusal .ensures) ∙ (c .before .if2 .taken)) (entry .args .out .now))
 
 send-requires-2 : tie.Need-send-requires-2
 send-requires-2 c κs = search needs
 
 sweep-requires : tie.Need-sweep-requires
-sweep-requires c κs = judged-table ((c .before .before .before .before .before .before .before .before .before .before .before .before .before .before .before .before .before .before .args .n)) ((c .before .before .before .before .before .before .before .before .before .before .before .before .before .before .before .before .before .before .pre) .0) ((c .before .before .before .before .before .before .before .before .before .before .before .before .before .before .before .before .before .before .args .r)) (((c .before .before .before .before .before .before .before .before .before .before .before .before .before .before .before .before .before .before .args .block)) .now) ((c .before .before .before .before .before .before .before .before .before .before .before .before .before .before .ticks .ensures)) ((c .before .before .before .before .before .before .before .before .before .before .before .before .before .act .ensures)) ((c .before .before .before .before .before .before .judge .ensures)) ((c .before .before .before .before .before .before .before .before .before .before .before .before .before .before .before .before .before .before .pre) .1) (λ i. ((c .before .before .before .before .before .before .before .before .before .before .before .before .before .before .before .before .before .shared-slice-known .given)) i .fits)
+sweep-requires c κs =
+    let entry = c .before .before .before .before .before .before .before .before .before .before .before .before .before .before .before .before .before .before in
+    let shared-slice-known = c .before .before .before .before .before .before .before .before .before .before .before .before .before .before .before .before .before .shared-slice-known in
+    let ticks = c .before .before .before .before .before .before .before .before .before .before .before .before .before .before .ticks in
+    let act = c .before .before .before .before .before .before .before .before .before .before .before .before .before .act in
+    let judge = c .before .before .before .before .before .before .judge in
+    judged-table (entry .args .n) (entry .pre .0) (entry .args .r) (entry .args .block .now) (ticks .ensures) (act .ensures) (judge .ensures)
+    (entry .pre .1) (λ i. (shared-slice-known .given) i .fits)
 
 same-length-2 : tie.Need-same-length-2
 same-length-2 c = search needs
 
 returns-3 : tie.Need-returns-3
-returns-3 c = taken ((c .before .before .before .before .before .before .before .before .before .before .before .before .before .before .before .before .before .before .before .args .n)) ((c .before .before .before .before .before .before .before .before .before .before .before .before .before .before .before .before .before .before .before .pre) .0) ((c .before .before .before .before .before .before .before .before .before .before .before .before .before .before .before .before .before .before .before .args .r)) (((c .before .before .before .before .before .before .before .before .before .before .before .before .before .before .before .before .before .before .before .args .block)) .now) ((c .before .before .before .before .before .before .before .before .before .before .before .before .before .before .before .ticks .ensures)) ((c .before .before .before .before .before .before .before .before .before .before .before .before .before .before .act .ensures)) ((c .before .before .before .before .before .before .before .before .before .before .before .before .before .settle .ensures)) ((c .before .before .before .before .before .before .before .before .before .before .before .before .is-tick .ensures)) ((c .before .before .before .before .before .before .before .before .before .before .before .pace .ensures)) ((c .before .before .before .before .before .before .before .judge .ensures)) (sym ((c .before .before .before .before .before .before .is-refusal .ensures)) ∙ ((c .before .before .before .before .before .if2 .left))) ((c .sweep .ensures)) (((c .before .before .before .before .before .before .before .before .before .before .before .before .before .before .before .before .before .before .before .args .out)) .now) _ ((c .before .before .before .send2 .ensures))
+returns-3 c =
+    let entry = c .before .before .before .before .before .before .before .before .before .before .before .before .before .before .before .before .before .before .before in
+    let ticks = c .before .before .before .before .before .before .before .before .before .before .before .before .before .before .before .ticks in
+    let act = c .before .before .before .before .before .before .before .before .before .before .before .before .before .before .act in
+    let settle = c .before .before .before .before .before .before .before .before .before .before .before .before .before .settle in
+    let is-tick = c .before .before .before .before .before .before .before .before .before .before .before .before .is-tick in
+    let pace = c .before .before .before .before .before .before .before .before .before .before .before .pace in
+    let judge = c .before .before .before .before .before .before .before .judge in
+    let is-refusal = c .before .before .before .before .before .before .is-refusal in
+    let if2 = c .before .before .before .before .before .if2 in
+    let send2 = c .before .before .before .send2 in
+    taken (entry .args .n) (entry .pre .0) (entry .args .r) (entry .args .block .now) (ticks .ensures) (act .ensures) (settle .ensures)
+    (is-tick .ensures) (pace .ensures) (judge .ensures) (sym (is-refusal .ensures) ∙ (if2 .left)) (c .sweep .ensures) (entry .args .out .now) _
+    (send2 .ensures)
 
 pub advance-spec : {M : Type 1} → statement M
 advance-spec =

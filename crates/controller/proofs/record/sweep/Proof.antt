@@ -32,10 +32,21 @@ purge-ringlet-requires-3 : tie.Need-purge-ringlet-requires-3
 purge-ringlet-requires-3 c κs = search needs
 
 returns-3 : tie.Need-returns-3
-returns-3 c = swept-east (c .before .before .before .before .before .pre) (c .before .before .before .before .before .args .t) (spansIn (c .before .before .before .before .before .args .c)) _ (sym (c .before .before .before .before .down .ensures) ∙ (c .before .before .before .if1 .left)) (sym (c .before .before .down3 .ensures) ∙ (c .before .if3 .taken)) (c .purge-ringlet3 .ensures)
+returns-3 c =
+    let entry = c .before .before .before .before .before in
+    let down = c .before .before .before .before .down in
+    let if1 = c .before .before .before .if1 in
+    let down3 = c .before .before .down3 in
+    swept-east (entry .pre) (entry .args .t) (spansIn (entry .args .c)) _ (sym (down .ensures) ∙ (if1 .left)) (sym (down3 .ensures) ∙
+    (c .before .if3 .taken)) (c .purge-ringlet3 .ensures)
 
 returns-4 : tie.Need-returns-4
-returns-4 c = swept-none (c .before .before .before .before .pre) (c .before .before .before .before .args .t) (spansIn (c .before .before .before .before .args .c)) (sym (c .before .before .before .down .ensures) ∙ (c .before .before .if1 .left)) (sym (c .before .down3 .ensures) ∙ (c .if3 .left))
+returns-4 c =
+    let entry = c .before .before .before .before in
+    let down = c .before .before .before .down in
+    let if1 = c .before .before .if1 in
+    swept-none (entry .pre) (entry .args .t) (spansIn (entry .args .c)) (sym (down .ensures) ∙ (if1 .left)) (sym (c .before .down3 .ensures) ∙
+    (c .if3 .left))
 
 pub sweep-spec : {M : Type 1} → statement M
 sweep-spec =

@@ -9,7 +9,9 @@ refuse-requires : tie.Need-refuse-requires
 refuse-requires c κs = search needs
 
 returns : tie.Need-returns
-returns c = rw ((c .refuse .ensures)) (no-room ((c .before .before .before .before .args .n)) ((c .before .before .before .before .pre)) (((c .before .before .before .before .args .bytes)) .now) (((c .before .before .before .before .args .out)) .now) ((c .before .if1 .taken)))
+returns c =
+    let entry = c .before .before .before .before in
+    rw (c .refuse .ensures) (no-room (entry .args .n) (entry .pre) (entry .args .bytes .now) (entry .args .out .now) (c .before .if1 .taken))
 
 read-record-requires : tie.Need-read-record-requires
 read-record-requires c κs = search needs
@@ -18,13 +20,25 @@ block-of-requires : tie.Need-block-of-requires
 block-of-requires c κs = search needs
 
 advance-requires : tie.Need-advance-requires
-advance-requires c κs = ((c .before .before .before .before .before .before .before .pre), rw (c .before .before .read-record .ensures) (read-in-kept _ ((c .before .before .before .before .before .before .before .args .bytes) .now) (λ i. (c .before .before .before .before .before .before .shared-slice-known .given) i .fits)))
+advance-requires c κs =
+    let entry = c .before .before .before .before .before .before .before in
+    let shared-slice-known = c .before .before .before .before .before .before .shared-slice-known in
+    let read-record = c .before .before .read-record in
+    ((entry .pre), rw (read-record .ensures) (read-in-kept _ (entry .args .bytes .now) (λ i. (shared-slice-known .given) i .fits)))
 
 same-length : tie.Need-same-length
 same-length c = search needs
 
 returns-2 : tie.Need-returns-2
-returns-2 c = recorded (c .before .before .before .before .before .before .before .before .before .before .args .n) (c .before .before .before .before .before .before .before .before .before .before .pre) ((c .before .before .before .before .before .before .before .before .before .before .args .bytes) .now) ((c .before .before .before .before .before .before .before .before .before .before .args .out) .now) _ _ _ _ (λ i. (c .before .before .before .before .before .before .before .before .before .shared-slice-known .given) i .fits) (c .before .before .before .before .before .before .before .if1 .left) (c .before .before .before .before .before .read-record .ensures) (c .before .before .before .before .block-of .ensures) (c .before .before .advance .ensures)
+returns-2 c =
+    let entry = c .before .before .before .before .before .before .before .before .before .before in
+    let shared-slice-known = c .before .before .before .before .before .before .before .before .before .shared-slice-known in
+    let if1 = c .before .before .before .before .before .before .before .if1 in
+    let read-record = c .before .before .before .before .before .read-record in
+    let block-of = c .before .before .before .before .block-of in
+    let advance = c .before .before .advance in
+    recorded (entry .args .n) (entry .pre) (entry .args .bytes .now) (entry .args .out .now) _ _ _ _ (λ i. (shared-slice-known .given) i .fits)
+    (if1 .left) (read-record .ensures) (block-of .ensures) (advance .ensures)
 
 pub take-record-spec : {M : Type 1} → statement M
 take-record-spec =

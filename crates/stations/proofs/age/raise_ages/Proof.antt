@@ -5,8 +5,8 @@ use Rattle.stations.specs.Table.{live}
 use Rattle.stations.specs.Stations.{young, aged}
 use Rattle.stations.specs.Station.{older}
 use native.Mathlib.Omega.{arith}
-use mathlib.Core.Path.{_≡_, sym, _∙_}
-use Prim.Native.Nat.{_-_, _+_, _<_}
+use mathlib.Core.Path.{sym, _∙_}
+use Prim.Native.Nat.{_-_}
 use borrow.Author.Needs.{needs}
 use Rattle.stations.proofs.age.raise_ages.Statement.{statement}
 use Rattle.stations.proofs.age.raise_ages.Tie as tie
@@ -51,7 +51,13 @@ loop-less : tie.Need-loop-less Inv-loop μ-loop
 loop-less c = search needs
 
 loop-again : tie.Need-loop-again Inv-loop μ-loop
-loop-again c = turn-stayed _ _ _ _ _ _ _ (c .before .before .before .before .before .before .before .pre) (c .before .before .before .before .before .loop .inv) (c .before .before .before .before .loop-test .taken) (sym (c .before .before .before .is-young .ensures) ∙ (c .before .before .if1 .taken)) (c .before .if2 .taken)
+loop-again c =
+    let entry = c .before .before .before .before .before .before .before in
+    let loop = c .before .before .before .before .before .loop in
+    let loop-test = c .before .before .before .before .loop-test in
+    let is-young = c .before .before .before .is-young in
+    let if1 = c .before .before .if1 in
+    turn-stayed _ _ _ _ _ _ _ (entry .pre) (loop .inv) (loop-test .taken) (sym (is-young .ensures) ∙ (if1 .taken)) (c .before .if2 .taken)
 
 mul-s : tie.Need-mul-s Inv-loop μ-loop
 mul-s c = search needs
@@ -78,7 +84,15 @@ loop-less-2 : tie.Need-loop-less-2 Inv-loop μ-loop
 loop-less-2 c = search needs
 
 loop-again-2 : tie.Need-loop-again-2 Inv-loop μ-loop
-loop-again-2 c = turn-moved _ _ _ _ _ _ _ _ (c .before .before .before .before .before .before .before .pre) (c .before .before .before .before .before .loop .inv) (c .before .before .before .before .loop-test .taken) (c .before .before .before .before .before .before .blank-station .ensures) (sym (c .before .before .before .is-young .ensures) ∙ (c .before .before .if1 .taken)) (c .before .if2 .left)
+loop-again-2 c =
+    let entry = c .before .before .before .before .before .before .before in
+    let blank-station = c .before .before .before .before .before .before .blank-station in
+    let loop = c .before .before .before .before .before .loop in
+    let loop-test = c .before .before .before .before .loop-test in
+    let is-young = c .before .before .before .is-young in
+    let if1 = c .before .before .if1 in
+    turn-moved _ _ _ _ _ _ _ _ (entry .pre) (loop .inv) (loop-test .taken) (blank-station .ensures) (sym (is-young .ensures) ∙ (if1 .taken))
+    (c .before .if2 .left)
 
 mul-b-2 : tie.Need-mul-b-2 Inv-loop μ-loop
 mul-b-2 c = search needs
@@ -90,11 +104,19 @@ loop-less-3 : tie.Need-loop-less-3 Inv-loop μ-loop
 loop-less-3 c = search needs
 
 loop-again-3 : tie.Need-loop-again-3 Inv-loop μ-loop
-loop-again-3 c = turn-dropped _ _ _ _ _ _ _ _ (c .before .before .before .before .before .pre) (c .before .before .before .loop .inv) (c .before .before .loop-test .taken) (c .before .before .before .before .blank-station .ensures) (sym (c .before .is-young .ensures) ∙ (c .if1 .left))
+loop-again-3 c =
+    let entry = c .before .before .before .before .before in
+    let blank-station = c .before .before .before .before .blank-station in
+    let loop = c .before .before .before .loop in
+    let loop-test = c .before .before .loop-test in
+    turn-dropped _ _ _ _ _ _ _ _ (entry .pre) (loop .inv) (loop-test .taken) (blank-station .ensures) (sym (c .before .is-young .ensures) ∙
+    (c .if1 .left))
 
 returns : tie.Need-returns Inv-loop μ-loop
 unfolding aged
-returns c = pass-end _ _ _ _ (c .before .loop .i) (c .before .before .before .pre) (c .before .loop .inv) (c .loop-test .left)
+returns c =
+    let entry = c .before .before .before in
+    pass-end _ _ _ _ (c .before .loop .i) (entry .pre) (c .before .loop .inv) (c .loop-test .left)
 
 pub raise-ages-spec : {M : Type 1} → statement M
 raise-ages-spec =

@@ -1,5 +1,5 @@
 -- Where nobody is in the way, nothing changes. Assumes nothing.
-use mathlib.Core.Path.{_≡_, sym, _∙_, ap}
+use mathlib.Core.Path.{sym, _∙_, ap}
 use Rattle.stations.specs.Table.{live, tableOf}
 use Rattle.stations.proofs.Sifting.{displaced-none}
 use borrow.Author.Needs.{needs}
@@ -16,7 +16,9 @@ returns : tie.Need-returns
 returns c = search needs
 
 returns-2 : tie.Need-returns-2
-returns-2 c = (c .before .before .pre .whole) ∙ ap tableOf (sym (displaced-none (c .before .before .args .p) (live (c .before .before .args .t)) (sym (c .before .is-held .ensures) ∙ (c .if1 .left))))
+returns-2 c =
+    let entry = c .before .before in
+    (entry .pre .whole) ∙ ap tableOf (sym (displaced-none (entry .args .p) (live (entry .args .t)) (sym (c .before .is-held .ensures) ∙ (c .if1 .left))))
 
 pub displace-others-spec : {M : Type 1} → statement M
 displace-others-spec = tie.close (tie.spec is-held-requires sweep-requires returns returns-2)

@@ -2,9 +2,8 @@
 use Rattle.stations.proofs.Others.{some-here, some-on, some-end}
 use Rattle.stations.specs.Table.{live}
 use Rattle.stations.specs.Steps.{anyOther}
-use native.Mathlib.Omega.{arith}
 use lib.ListN.{drop}
-use mathlib.Core.Path.{_≡_, refl, sym, _∙_}
+use mathlib.Core.Path.{_≡_, sym, _∙_}
 use Prim.Native.Nat.{_≤_, _-_}
 use borrow.Author.Needs.{needs}
 use Rattle.stations.proofs.displace.is_held.Statement.{statement}
@@ -44,7 +43,12 @@ is-other-requires : tie.Need-is-other-requires Inv-loop μ-loop
 is-other-requires c κs = search needs
 
 returns : tie.Need-returns Inv-loop μ-loop
-returns c = some-here (c .before .before .before .before .before .pre) _ _ _ (c .before .before .before .loop-test .taken) (c .before .before .before .before .loop .inv .1) (sym (rw (c .before .before .side .ensures) at (c .before .is-other .ensures)) ∙ (c .if1 .taken))
+returns c =
+    let entry = c .before .before .before .before .before in
+    let loop = c .before .before .before .before .loop in
+    let loop-test = c .before .before .before .loop-test in
+    let side = c .before .before .side in
+    some-here (entry .pre) _ _ _ (loop-test .taken) (loop .inv .1) (sym (rw (side .ensures) at (c .before .is-other .ensures)) ∙ (c .if1 .taken))
 
 add-i : tie.Need-add-i Inv-loop μ-loop
 add-i c = search needs
@@ -53,10 +57,20 @@ loop-less : tie.Need-loop-less Inv-loop μ-loop
 loop-less c = search needs
 
 loop-again : tie.Need-loop-again Inv-loop μ-loop
-loop-again c = (search needs, some-on (c .before .before .before .before .before .pre) _ _ _ (c .before .before .before .loop-test .taken) (c .before .before .before .before .loop .inv .1) (sym (rw (c .before .before .side .ensures) at (c .before .is-other .ensures)) ∙ (c .if1 .left)))
+loop-again c =
+    let entry = c .before .before .before .before .before in
+    let loop = c .before .before .before .before .loop in
+    let loop-test = c .before .before .before .loop-test in
+    let side = c .before .before .side in (
+      search needs,
+      some-on (entry .pre) _ _ _ (loop-test .taken) (loop .inv .1)
+          (sym (rw (side .ensures) at (c .before .is-other .ensures)) ∙ (c .if1 .left)),
+    )
 
 returns-2 : tie.Need-returns-2 Inv-loop μ-loop
-returns-2 c = some-end (c .before .before .pre) _ _ (c .loop-test .left) (c .before .loop .inv .0) (c .before .loop .inv .1)
+returns-2 c =
+    let entry = c .before .before in
+    some-end (entry .pre) _ _ (c .loop-test .left) (c .before .loop .inv .0) (c .before .loop .inv .1)
 
 pub is-held-spec : {M : Type 1} → statement M
 is-held-spec =

@@ -4,8 +4,8 @@ use Rattle.stations.proofs.Losing.{losing-is, stays-is}
 use Rattle.stations.proofs.Passes.{Pass, pass-none, pass-end, turn-dropped, turn-kept}
 use Rattle.stations.specs.Table.{blank, live}
 use Rattle.stations.specs.Stations.{undisplaced, losing, displaced}
-use mathlib.Core.Path.{_≡_, sym, _∙_}
-use Prim.Native.Nat.{_-_, _+_}
+use mathlib.Core.Path.{_∙_}
+use Prim.Native.Nat.{_-_}
 use borrow.Author.Needs.{needs}
 use Rattle.stations.proofs.displace.sweep.Statement.{statement}
 use Rattle.stations.proofs.displace.sweep.Tie as tie
@@ -90,7 +90,21 @@ loop-less c = search needs
 
 loop-again : tie.Need-loop-again Inv-loop μ-loop
 unfolding blank
-loop-again c = rw (losing-is (c .before .before .before .before .before .before .before .before .before .before .before .before .args .p) (getD ((c .before .before .before .before .before .before .before .before .before .before .loop .t) .places) (c .before .before .before .before .before .before .before .before .before .before .loop .i) blank) (c .before .before .before .before .before .before .before .before .side .ensures) (c .before .before .before .before .before .before .before .is-other .ensures) (c .before .before .before .before .before .before .side2 .ensures) (c .before .before .before .before .before .side3 .ensures) (c .before .choose .ensures) (c .choose2 .ensures)) (turn-kept (c .before .before .before .before .before .before .before .before .before .before .before .before .args .t1) _ _ _ _ _ blank _ (c .before .before .before .before .before .before .before .before .before .before .before .before .pre) (c .before .before .before .before .before .before .before .before .before .before .loop .inv) (c .before .before .before .before .before .before .before .before .before .loop-test .taken) (c .before .before .before .before .before .before .before .before .before .before .before .blank-station .ensures) (stays-is (c .before .before .before .before .before .before .before .before .before .before .before .before .args .p) (getD ((c .before .before .before .before .before .before .before .before .before .before .loop .t) .places) (c .before .before .before .before .before .before .before .before .before .before .loop .i) blank) (c .before .before .before .before .before .before .before .before .side .ensures) (c .before .before .before .before .before .before .before .is-other .ensures) (c .before .before .before .before .before .before .side2 .ensures) (c .before .before .before .before .before .side3 .ensures) (c .before .before .before .before .stays .ensures) ∙ (c .before .before .before .if1 .taken)))
+loop-again c =
+    let entry = c .before .before .before .before .before .before .before .before .before .before .before .before in
+    let blank-station = c .before .before .before .before .before .before .before .before .before .before .before .blank-station in
+    let loop = c .before .before .before .before .before .before .before .before .before .before .loop in
+    let loop-test = c .before .before .before .before .before .before .before .before .before .loop-test in
+    let side = c .before .before .before .before .before .before .before .before .side in
+    let is-other = c .before .before .before .before .before .before .before .is-other in
+    let side2 = c .before .before .before .before .before .before .side2 in
+    let side3 = c .before .before .before .before .before .side3 in
+    let stays = c .before .before .before .before .stays in
+    let if1 = c .before .before .before .if1 in
+    rw (losing-is (entry .args .p) (getD (loop .t .places) (loop .i) blank) (side .ensures) (is-other .ensures) (side2 .ensures) (side3 .ensures)
+    (c .before .choose .ensures) (c .choose2 .ensures)) (turn-kept (entry .args .t1) _ _ _ _ _ blank _ (entry .pre) (loop .inv) (loop-test .taken)
+    (blank-station .ensures)
+    (stays-is (entry .args .p) (getD (loop .t .places) (loop .i) blank) (side .ensures) (is-other .ensures) (side2 .ensures) (side3 .ensures) (stays .ensures) ∙ (if1 .taken)))
 
 mul-b-2 : tie.Need-mul-b-2 Inv-loop μ-loop
 mul-b-2 c = search needs
@@ -103,11 +117,24 @@ loop-less-2 c = search needs
 
 loop-again-2 : tie.Need-loop-again-2 Inv-loop μ-loop
 unfolding blank
-loop-again-2 c = turn-dropped (c .before .before .before .before .before .before .before .before .before .args .t1) _ _ _ _ _ blank _ (c .before .before .before .before .before .before .before .before .before .pre) (c .before .before .before .before .before .before .before .loop .inv) (c .before .before .before .before .before .before .loop-test .taken) (c .before .before .before .before .before .before .before .before .blank-station .ensures) (stays-is (c .before .before .before .before .before .before .before .before .before .args .p) (getD ((c .before .before .before .before .before .before .before .loop .t) .places) (c .before .before .before .before .before .before .before .loop .i) blank) (c .before .before .before .before .before .side .ensures) (c .before .before .before .before .is-other .ensures) (c .before .before .before .side2 .ensures) (c .before .before .side3 .ensures) (c .before .stays .ensures) ∙ (c .if1 .left))
+loop-again-2 c =
+    let entry = c .before .before .before .before .before .before .before .before .before in
+    let blank-station = c .before .before .before .before .before .before .before .before .blank-station in
+    let loop = c .before .before .before .before .before .before .before .loop in
+    let loop-test = c .before .before .before .before .before .before .loop-test in
+    let side = c .before .before .before .before .before .side in
+    let is-other = c .before .before .before .before .is-other in
+    let side2 = c .before .before .before .side2 in
+    let side3 = c .before .before .side3 in
+    turn-dropped (entry .args .t1) _ _ _ _ _ blank _ (entry .pre) (loop .inv) (loop-test .taken) (blank-station .ensures) (stays-is (entry .args .p)
+    (getD (loop .t .places) (loop .i) blank) (side .ensures) (is-other .ensures) (side2 .ensures) (side3 .ensures) (c .before .stays .ensures) ∙
+    (c .if1 .left))
 
 returns : tie.Need-returns Inv-loop μ-loop
 unfolding displaced
-returns c = pass-end _ _ _ _ (c .before .loop .i) (c .before .before .before .pre) (c .before .loop .inv) (c .loop-test .left)
+returns c =
+    let entry = c .before .before .before in
+    pass-end _ _ _ _ (c .before .loop .i) (entry .pre) (c .before .loop .inv) (c .loop-test .left)
 
 pub sweep-spec : {M : Type 1} → statement M
 sweep-spec =

@@ -1,5 +1,5 @@
 -- In use: those of the station there; else those of the blank that stands past the stations. Assumes nothing.
-use mathlib.Core.Path.{_≡_, sym, _∙_, ap}
+use mathlib.Core.Path.{sym, _∙_, ap}
 use Rattle.stations.specs.Station.{attributesIn}
 use Rattle.stations.specs.Table.{blank}
 use Rattle.stations.proofs.Tables.{place-is, blank-past}
@@ -18,7 +18,10 @@ attributes-requires c κs = search needs
 
 returns : tie.Need-returns
 unfolding blank
-returns c = (c .attributes .ensures) ∙ ap attributesIn (place-is (c .before .before .before .args .t1) (c .before .before .before .args .at) blank (c .before .before .if1 .taken))
+returns c =
+    let entry = c .before .before .before in
+    let if1 = c .before .before .if1 in
+    (c .attributes .ensures) ∙ ap attributesIn (place-is (entry .args .t1) (entry .args .at) blank (if1 .taken))
 
 blank-station-requires : tie.Need-blank-station-requires
 blank-station-requires c κs = search needs
@@ -27,7 +30,10 @@ attributes-requires-2 : tie.Need-attributes-requires-2
 attributes-requires-2 c κs = search needs
 
 returns-2 : tie.Need-returns-2
-returns-2 c = (c .attributes2 .ensures) ∙ ap attributesIn ((c .before .blank-station .ensures) ∙ sym (blank-past (c .before .before .before .pre) (c .before .before .before .args .at) (c .before .before .if1 .left)))
+returns-2 c =
+    let entry = c .before .before .before in
+    let if1 = c .before .before .if1 in
+    (c .attributes2 .ensures) ∙ ap attributesIn ((c .before .blank-station .ensures) ∙ sym (blank-past (entry .pre) (entry .args .at) (if1 .left)))
 
 pub attributes-at-spec : {M : Type 1} → statement M
 attributes-at-spec =

@@ -1,6 +1,6 @@
 -- In use: the field of its ringlet; else the blank that stands past the stations. Assumes nothing.
-use mathlib.Core.Path.{_≡_, _∙_, ap}
-use Rattle.stations.specs.Station.{Station, hop}
+use mathlib.Core.Path.{_∙_, ap}
+use Rattle.stations.specs.Station.{hop}
 use Rattle.stations.specs.Table.{blank}
 use Rattle.stations.proofs.Tables.{place-is, no-hop-past}
 use borrow.Author.Needs.{needs}
@@ -24,7 +24,9 @@ side-requires c κs = search needs
 
 returns : tie.Need-returns
 unfolding blank
-returns c = (c .side .ensures) ∙ ap (hop (c .before .before .args .ringlet)) (place-is (c .before .before .args .t1) (c .before .before .args .at) blank (c .before .if1 .taken))
+returns c =
+    let entry = c .before .before in
+    (c .side .ensures) ∙ ap (hop (entry .args .ringlet)) (place-is (entry .args .t1) (entry .args .at) blank (c .before .if1 .taken))
 
 returns-2 : tie.Need-returns-2
 returns-2 c = no-hop-past (c .before .pre) (c .before .args .at) (c .before .args .ringlet) (c .if1 .left)

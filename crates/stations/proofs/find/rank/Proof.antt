@@ -33,13 +33,19 @@ loop-less : tie.Need-loop-less Inv-loop μ-loop
 loop-less c = search needs
 
 loop-again : tie.Need-loop-again Inv-loop μ-loop
-loop-again c = (half-right (c .before .before .before .pre) _ (((c .before .before .loop .low) + (c .before .before .loop .high)) / 2) _ (omega arith) (c .if1 .taken), ((c .before .before .loop .inv .1 .0), (c .before .before .loop .inv .1 .1)))
+loop-again c =
+    let entry = c .before .before .before in
+    let loop = c .before .before .loop in
+    (half-right (entry .pre) _ (((loop .low) + (loop .high)) / 2) _ (omega arith) (c .if1 .taken), ((loop .inv .1 .0), (loop .inv .1 .1)))
 
 loop-less-2 : tie.Need-loop-less-2 Inv-loop μ-loop
 loop-less-2 c = search needs
 
 loop-again-2 : tie.Need-loop-again-2 Inv-loop μ-loop
-loop-again-2 c = ((c .before .before .loop .inv .0), (half-left (c .before .before .before .pre) _ (((c .before .before .loop .low) + (c .before .before .loop .high)) / 2) _ (omega arith) (c .if1 .left), omega arith))
+loop-again-2 c =
+    let entry = c .before .before .before in
+    let loop = c .before .before .loop in
+    ((loop .inv .0), (half-left (entry .pre) _ (((loop .low) + (loop .high)) / 2) _ (omega arith) (c .if1 .left), omega arith))
 
 returns : tie.Need-returns Inv-loop μ-loop
 returns c = search needs

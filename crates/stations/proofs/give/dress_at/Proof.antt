@@ -1,5 +1,5 @@
 -- One station is stored, at a place in use. Assumes nothing.
-use mathlib.Core.Path.{_≡_, sym, _∙_, ap}
+use mathlib.Core.Path.{_∙_, ap}
 use lib.ListN.{set}
 use Rattle.stations.specs.Station.{Station, withAttributes}
 use Rattle.stations.specs.Table.{blank, live, tableOf}
@@ -26,7 +26,11 @@ element-set-from-t c = search needs
 
 returns : tie.Need-returns
 unfolding blank
-returns c = set-table (c .before .before .args .at) (c .dress .result) (c .before .before .pre .0) (c .before .before .pre .1) ∙ ap (λ (s : Station). tableOf (set (live (c .before .before .args .t1)) (c .before .before .args .at) s)) ((c .dress .ensures) ∙ ap (withAttributes (c .before .before .args .x)) (place-is (c .before .before .args .t1) (c .before .before .args .at) blank (c .before .before .pre .1)))
+returns c =
+    let entry = c .before .before in
+    set-table (entry .args .at) (c .dress .result) (entry .pre .0) (entry .pre .1) ∙ ap (λ (s : Station). tableOf
+    (set (live (entry .args .t1)) (entry .args .at) s)) ((c .dress .ensures) ∙ ap (withAttributes (entry .args .x))
+    (place-is (entry .args .t1) (entry .args .at) blank (entry .pre .1)))
 
 pub dress-at-spec : {M : Type 1} → statement M
 dress-at-spec =

@@ -1,5 +1,4 @@
 -- Old; or renewed and then (e), which spares the station itself. Assumes nothing.
-use native.Mathlib.Omega.{arith}
 use Rattle.stations.specs.Table.{blank}
 use Rattle.stations.proofs.Hearings.{found-inside, renewed-kept, known-old, known-placed}
 use borrow.Author.Needs.{needs}
@@ -17,17 +16,29 @@ far-requires c κs = search needs
 
 returns : tie.Need-returns
 unfolding blank
-returns c = known-old (c .before .before .pre .0) (c .before .before .args .p) (c .before .before .args .at) (c .before .before .pre .1) _ (c .before .far .ensures) (c .if1 .taken)
+returns c =
+    let entry = c .before .before in
+    known-old (entry .pre .0) (entry .args .p) (entry .args .at) (entry .pre .1) _ (c .before .far .ensures) (c .if1 .taken)
 
 renew-at-requires : tie.Need-renew-at-requires
-renew-at-requires c κs = ((c .before .before .pre .0), found-inside (c .before .before .pre .0) (c .before .before .args .p) (c .before .before .args .at) (c .before .before .pre .1))
+renew-at-requires c κs =
+    let entry = c .before .before in
+    ((entry .pre .0), found-inside (entry .pre .0) (entry .args .p) (entry .args .at) (entry .pre .1))
 
 displace-others-requires : tie.Need-displace-others-requires
-displace-others-requires c κs = renewed-kept (c .before .before .before .pre .0) (c .before .before .before .args .p) (c .before .before .before .args .at) (c .before .before .before .pre .1) (c .before .before .far .result) _ (c .renew-at .ensures)
+displace-others-requires c κs =
+    let entry = c .before .before .before in
+    let far = c .before .before .far in
+    renewed-kept (entry .pre .0) (entry .args .p) (entry .args .at) (entry .pre .1) (far .result) _ (c .renew-at .ensures)
 
 returns-2 : tie.Need-returns-2
 unfolding blank
-returns-2 c = known-placed (c .before .before .before .before .pre .0) (c .before .before .before .before .args .p) (c .before .before .before .before .args .at) (c .before .before .before .before .pre .1) _ (c .before .before .before .far .ensures) _ _ (c .before .before .if1 .left) (c .before .renew-at .ensures) (c .displace-others .ensures)
+returns-2 c =
+    let entry = c .before .before .before .before in
+    let far = c .before .before .before .far in
+    let if1 = c .before .before .if1 in
+    known-placed (entry .pre .0) (entry .args .p) (entry .args .at) (entry .pre .1) _ (far .ensures) _ _ (if1 .left) (c .before .renew-at .ensures)
+    (c .displace-others .ensures)
 
 pub hear-known-spec : {M : Type 1} → statement M
 hear-known-spec =

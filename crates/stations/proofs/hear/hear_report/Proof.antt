@@ -1,5 +1,5 @@
 -- Found or not decides between a known station and a new one. Assumes nothing.
-use mathlib.Core.Path.{_≡_, sym, _∙_, ap}
+use mathlib.Core.Path.{sym, _∙_, ap}
 use Rattle.stations.specs.Table.{hearingOf}
 use Rattle.stations.proofs.Hearings.{new-report, known-report}
 use borrow.Author.Needs.{needs}
@@ -19,13 +19,23 @@ enum-known-f : tie.Need-enum-known-f
 enum-known-f c = search needs
 
 hear-known-requires : tie.Need-hear-known-requires
-hear-known-requires c κs = ((c .before .before .before .before .pre), sym (c .before .before .before .find-station .ensures) ∙ (c .before .f .given .1))
+hear-known-requires c κs =
+    let entry = c .before .before .before .before in
+    let find-station = c .before .before .before .find-station in
+    ((entry .pre), sym (find-station .ensures) ∙ (c .before .f .given .1))
 
 returns : tie.Need-returns
-returns c = (c .hear-new .ensures) ∙ ap hearingOf (sym (new-report (c .before .before .before .before .pre) _ (sym (c .before .before .before .find-station .ensures) ∙ (c .before .enum-told .given .1))))
+returns c =
+    let entry = c .before .before .before .before in
+    let find-station = c .before .before .before .find-station in
+    (c .hear-new .ensures) ∙ ap hearingOf (sym (new-report (entry .pre) _ (sym (find-station .ensures) ∙ (c .before .enum-told .given .1))))
 
 returns-2 : tie.Need-returns-2
-returns-2 c = (c .hear-known .ensures) ∙ ap hearingOf (sym (known-report (c .before .before .before .before .before .pre) _ _ (sym (c .before .before .before .before .find-station .ensures) ∙ (c .before .before .f .given .1))))
+returns-2 c =
+    let entry = c .before .before .before .before .before in
+    let find-station = c .before .before .before .before .find-station in
+    let f = c .before .before .f in
+    (c .hear-known .ensures) ∙ ap hearingOf (sym (known-report (entry .pre) _ _ (sym (find-station .ensures) ∙ (f .given .1))))
 
 pub hear-report-spec : {M : Type 1} → statement M
 hear-report-spec =

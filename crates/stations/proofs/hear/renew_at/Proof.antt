@@ -1,5 +1,5 @@
 -- One station is stored, at a place in use. Assumes nothing.
-use mathlib.Core.Path.{_≡_, sym, _∙_, ap}
+use mathlib.Core.Path.{_∙_, ap}
 use lib.ListN.{set}
 use Rattle.stations.specs.Station.{Station}
 use Rattle.stations.specs.Hearing.{heardAgain}
@@ -27,7 +27,11 @@ element-set-from-t c = search needs
 
 returns : tie.Need-returns
 unfolding blank
-returns c = set-table (c .before .before .args .at) (c .hear-again .result) (c .before .before .pre .0) (c .before .before .pre .1) ∙ ap (λ (s : Station). tableOf (set (live (c .before .before .args .t1)) (c .before .before .args .at) s)) ((c .hear-again .ensures) ∙ ap (heardAgain (c .before .before .args .distance) (c .before .before .args .p)) (place-is (c .before .before .args .t1) (c .before .before .args .at) blank (c .before .before .pre .1)))
+returns c =
+    let entry = c .before .before in
+    set-table (entry .args .at) (c .hear-again .result) (entry .pre .0) (entry .pre .1) ∙ ap (λ (s : Station). tableOf
+    (set (live (entry .args .t1)) (entry .args .at) s)) ((c .hear-again .ensures) ∙ ap (heardAgain (entry .args .distance) (entry .args .p))
+    (place-is (entry .args .t1) (entry .args .at) blank (entry .pre .1)))
 
 pub renew-at-spec : {M : Type 1} → statement M
 renew-at-spec =

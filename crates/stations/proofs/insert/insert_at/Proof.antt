@@ -51,7 +51,10 @@ add-t : tie.Need-add-t Inv-loop μ-loop
 add-t c = search needs
 
 returns : tie.Need-returns Inv-loop μ-loop
-returns c = down-end _ (c .before .loop .i) _ _ (c .before .before .pre .0) (c .before .before .pre .1) (c .before .before .pre .2) (omega arith) (c .before .loop .inv .1 .1 .0) (c .before .loop .inv .1 .1 .1)
+returns c =
+    let entry = c .before .before in
+    down-end _ (c .before .loop .i) _ _ (entry .pre .0) (entry .pre .1) (entry .pre .2) (omega arith) (c .before .loop .inv .1 .1 .0)
+    (c .before .loop .inv .1 .1 .1)
 
 pub insert-at-spec : {M : Type 1} → statement M
 insert-at-spec =

@@ -1,5 +1,4 @@
 -- At its rank a station is where it goes. Assumes nothing.
-use mathlib.Core.Path.{_≡_}
 use Rattle.stations.proofs.Ranks.{rank-in, insert-is}
 use borrow.Author.Needs.{needs}
 use Rattle.stations.proofs.insert.insert_station.Statement.{statement}

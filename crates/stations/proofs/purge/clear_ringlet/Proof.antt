@@ -3,8 +3,8 @@ use Rattle.stations.proofs.Passes.{Pass, pass-none, pass-end, turn-drop
 use Rattle.stations.specs.Table.{blank, live}
 use Rattle.stations.specs.Stations.{unpurged, purged}
 use Rattle.stations.specs.Station.{withHop}
-use mathlib.Core.Path.{_≡_, sym, _∙_}
-use Prim.Native.Nat.{_-_, _+_}
+use mathlib.Core.Path.{sym, _∙_}
+use Prim.Native.Nat.{_-_}
 use borrow.Author.Needs.{needs}
 use Rattle.stations.proofs.purge.clear_ringlet.Statement.{statement}
 use Rattle.stations.proofs.purge.clear_ringlet.Tie as tie
@@ -70,7 +70,16 @@ loop-less : tie.Need-loop-less Inv-loop μ-loop
 loop-less c = search needs
 
 loop-again : tie.Need-loop-again Inv-loop μ-loop
-loop-again c = rw ((c .before .before .before .before .side .ensures), (c .before .before .before .side2 .ensures)) (turn-kept (c .before .before .before .before .before .before .before .before .args .t1) _ _ _ _ _ _ _ (c .before .before .before .before .before .before .before .before .pre) (c .before .before .before .before .before .before .loop .inv) (c .before .before .before .before .before .loop-test .taken) (c .before .before .before .before .before .before .before .blank-station .ensures) (sym (rw ((c .before .before .before .before .side .ensures), (c .before .before .before .side2 .ensures)) at (c .before .before .somewhere .ensures)) ∙ (c .before .if1 .taken)))
+loop-again c =
+    let entry = c .before .before .before .before .before .before .before .before in
+    let blank-station = c .before .before .before .before .before .before .before .blank-station in
+    let loop = c .before .before .before .before .before .before .loop in
+    let loop-test = c .before .before .before .before .before .loop-test in
+    let side = c .before .before .before .before .side in
+    let side2 = c .before .before .before .side2 in
+    let somewhere = c .before .before .somewhere in
+    rw ((side .ensures), (side2 .ensures)) (turn-kept (entry .args .t1) _ _ _ _ _ _ _ (entry .pre) (loop .inv) (loop-test .taken)
+    (blank-station .ensures) (sym (rw ((side .ensures), (side2 .ensures)) at (somewhere .ensures)) ∙ (c .before .if1 .taken)))
 
 mul-b-2 : tie.Need-mul-b-2 Inv-loop μ-loop
 mul-b-2 c = search needs
@@ -83,11 +92,21 @@ loop-less-2 c = search needs
 
 loop-again-2 : tie.Need-loop-again-2 Inv-loop μ-loop
 unfolding blank
-loop-again-2 c = turn-dropped (c .before .before .before .before .before .before .before .args .t1) _ _ _ _ _ blank _ (c .before .before .before .before .before .before .before .pre) (c .before .before .before .before .before .loop .inv) (c .before .before .before .before .loop-test .taken) (c .before .before .before .before .before .before .blank-station .ensures) (sym (rw ((c .before .before .before .side .ensures), (c .before .before .side2 .ensures)) at (c .before .somewhere .ensures)) ∙ (c .if1 .left))
+loop-again-2 c =
+    let entry = c .before .before .before .before .before .before .before in
+    let blank-station = c .before .before .before .before .before .before .blank-station in
+    let loop = c .before .before .before .before .before .loop in
+    let loop-test = c .before .before .before .before .loop-test in
+    let side = c .before .before .before .side in
+    let side2 = c .before .before .side2 in
+    turn-dropped (entry .args .t1) _ _ _ _ _ blank _ (entry .pre) (loop .inv) (loop-test .taken) (blank-station .ensures) (sym
+    (rw ((side .ensures), (side2 .ensures)) at (c .before .somewhere .ensures)) ∙ (c .if1 .left))
 
 returns : tie.Need-returns Inv-loop μ-loop
 unfolding purged
-returns c = pass-end _ _ _ _ (c .before .loop .i) (c .before .before .before .pre) (c .before .loop .inv) (c .loop-test .left)
+returns c =
+    let entry = c .before .before .before in
+    pass-end _ _ _ _ (c .before .loop .i) (entry .pre) (c .before .loop .inv) (c .loop-test .left)
 
 pub clear-ringlet-spec : {M : Type 1} → statement M
 clear-ringlet-spec =

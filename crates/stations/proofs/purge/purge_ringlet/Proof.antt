@@ -1,5 +1,5 @@
 -- Where nothing is to be purged, nothing changes. Assumes nothing.
-use mathlib.Core.Path.{_≡_, sym, _∙_, ap}
+use mathlib.Core.Path.{sym, _∙_, ap}
 use Rattle.stations.specs.Table.{live, tableOf}
 use Rattle.stations.proofs.Sifting.{purged-none}
 use borrow.Author.Needs.{needs}
@@ -16,7 +16,10 @@ returns : tie.Need-returns
 returns c = search needs
 
 returns-2 : tie.Need-returns-2
-returns-2 c = (c .before .before .pre .whole) ∙ ap tableOf (sym (purged-none (c .before .before .args .ringlet) (live (c .before .before .args .t)) (sym (c .before .is-heard .ensures) ∙ (c .if1 .left))))
+returns-2 c =
+    let entry = c .before .before in
+    (entry .pre .whole) ∙ ap tableOf (sym
+    (purged-none (entry .args .ringlet) (live (entry .args .t)) (sym (c .before .is-heard .ensures) ∙ (c .if1 .left))))
 
 pub purge-ringlet-spec : {M : Type 1} → statement M
 purge-ringlet-spec =

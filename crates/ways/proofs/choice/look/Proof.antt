@@ -19,13 +19,28 @@ enum-known-w : tie.Need-enum-known-w
 enum-known-w c = search needs
 
 returns-2 : tie.Need-returns-2
-returns-2 c = side-open (c .before .before .before .before .before .before .args .ringlet) (c .before .before .before .before .before .before .args .own) (live (c .before .before .before .before .before .before .args .t)) (c .before .before .before .before .before .before .args .h) (c .before .before .before .before .walk-to .ensures) (c .before .before .before .before .before .if1 .left) (c .before .before .w .given .1) (omega arith)
+returns-2 c =
+    let entry = c .before .before .before .before .before .before in
+    let if1 = c .before .before .before .before .before .if1 in
+    let walk-to = c .before .before .before .before .walk-to in
+    let w = c .before .before .w in
+    side-open (entry .args .ringlet) (entry .args .own) (live (entry .args .t)) (entry .args .h) (walk-to .ensures) (if1 .left) (w .given .1)
+    (omega arith)
 
 returns-3 : tie.Need-returns-3
-returns-3 c = side-broken (c .before .before .before .before .args .ringlet) (c .before .before .before .before .args .own) (live (c .before .before .before .before .args .t)) (c .before .before .before .before .args .h) (c .before .before .walk-to .ensures) (c .enum-told .given .1)
+returns-3 c =
+    let entry = c .before .before .before .before in
+    let walk-to = c .before .before .walk-to in
+    side-broken (entry .args .ringlet) (entry .args .own) (live (entry .args .t)) (entry .args .h) (walk-to .ensures) (c .enum-told .given .1)
 
 returns-4 : tie.Need-returns-4
-returns-4 c = side-closed (c .before .before .before .before .before .before .args .ringlet) (c .before .before .before .before .before .before .args .own) (live (c .before .before .before .before .before .before .args .t)) (c .before .before .before .before .before .before .args .h) (c .before .before .before .before .walk-to .ensures) (c .before .before .before .before .before .if1 .left) (c .before .before .w .given .1) (omega arith)
+returns-4 c =
+    let entry = c .before .before .before .before .before .before in
+    let if1 = c .before .before .before .before .before .if1 in
+    let walk-to = c .before .before .before .before .walk-to in
+    let w = c .before .before .w in
+    side-closed (entry .args .ringlet) (entry .args .own) (live (entry .args .t)) (entry .args .h) (walk-to .ensures) (if1 .left) (w .given .1)
+    (omega arith)
 
 pub look-spec : {M : Type 1} → statement M
 look-spec =

@@ -30,10 +30,21 @@ choose-requires : tie.Need-choose-requires
 choose-requires c κs = search needs
 
 returns : tie.Need-returns
-returns c = way-unknown (c .before .before .before .args .west) (c .before .before .before .args .east) (c .before .before .before .args .address) (live (c .before .before .before .args .t)) (c .before .before .find-station .ensures) (c .enum-told .given .1)
+returns c =
+    let entry = c .before .before .before in
+    let find-station = c .before .before .find-station in
+    way-unknown (entry .args .west) (entry .args .east) (entry .args .address) (live (entry .args .t)) (find-station .ensures) (c .enum-told .given .1)
 
 returns-2 : tie.Need-returns-2
-returns-2 c = way-known (c .before .before .before .before .before .before .before .before .before .args .west) (c .before .before .before .before .before .before .before .before .before .args .east) (c .before .before .before .before .before .before .before .before .before .args .address) (live (c .before .before .before .before .before .before .before .before .before .args .t)) (c .before .before .before .before .before .before .before .before .find-station .ensures) (c .before .before .before .before .before .before .f .given .1) (c .before .before .before .before .hop-at .ensures) (c .before .before .before .hop-at2 .ensures) (c .before .before .look .ensures) (c .before .look2 .ensures) (c .choose .ensures)
+returns-2 c =
+    let entry = c .before .before .before .before .before .before .before .before .before in
+    let find-station = c .before .before .before .before .before .before .before .before .find-station in
+    let f = c .before .before .before .before .before .before .f in
+    let hop-at = c .before .before .before .before .hop-at in
+    let hop-at2 = c .before .before .before .hop-at2 in
+    let look = c .before .before .look in
+    way-known (entry .args .west) (entry .args .east) (entry .args .address) (live (entry .args .t)) (find-station .ensures) (f .given .1)
+    (hop-at .ensures) (hop-at2 .ensures) (look .ensures) (c .before .look2 .ensures) (c .choose .ensures)
 
 pub way-to-spec : {M : Type 1} → statement M
 way-to-spec =

@@ -50,10 +50,18 @@ loop-less : tie.Need-loop-less Inv-loop μ-loop
 loop-less c = search needs
 
 loop-again : tie.Need-loop-again Inv-loop μ-loop
-loop-again c = (omega arith, slots-step (c .before .before .before .args .ringlet) (c .before .before .loop .i) _ (c .before .before .before .pre) (c .before .loop-test .taken) (c .before .before .loop .inv .0) (c .before .before .loop .inv .1) (c .side .ensures))
+loop-again c =
+    let entry = c .before .before .before in
+    let loop = c .before .before .loop in (
+      omega arith,
+      slots-step (entry .args .ringlet) (loop .i) _ (entry .pre) (c .before .loop-test .taken) (loop .inv .0) (loop .inv .1)
+          (c .side .ensures),
+    )
 
 returns : tie.Need-returns Inv-loop μ-loop
-returns c = slots-all (c .before .before .args .ringlet) (c .before .loop .i) (live (c .before .before .args .t1)) (c .loop-test .left) (c .before .loop .inv .1)
+returns c =
+    let entry = c .before .before in
+    slots-all (entry .args .ringlet) (c .before .loop .i) (live (entry .args .t1)) (c .loop-test .left) (c .before .loop .inv .1)
 
 pub index-of-spec : {M : Type 1} → statement M
 index-of-spec =

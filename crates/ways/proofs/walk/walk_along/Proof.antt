@@ -31,19 +31,35 @@ cast-k : tie.Need-cast-k Inv-loop μ-loop
 cast-k c = search needs
 
 returns : tie.Need-returns Inv-loop μ-loop
-returns c = come-broken (c .before .before .before .args .h) (c .before .before .loop .inv .1) (c .before .loop-test .taken) (index-none (c .before .before .before .args .ringlet) (c .before .before .before .pre .0) (c .before .before .before .pre .1) ((c .before .before .loop .j) + 1) (omega arith) (c .if1 .taken))
+returns c =
+    let entry = c .before .before .before in
+    let loop = c .before .before .loop in
+    come-broken (entry .args .h) (loop .inv .1) (c .before .loop-test .taken) (index-none (entry .args .ringlet) (entry .pre .0) (entry .pre .1)
+    ((loop .j) + 1) (omega arith) (c .if1 .taken))
 
 mul-west : tie.Need-mul-west Inv-loop μ-loop
-mul-west c = omega (arith, index-inside (c .before .before .before .args .ringlet) (c .before .before .before .pre .0) (c .before .before .before .pre .1) ((c .before .before .loop .j) + 1) (omega arith) (c .if1 .left))
+mul-west c =
+    let entry = c .before .before .before in
+    let loop = c .before .before .loop in
+    omega (arith, index-inside (entry .args .ringlet) (entry .pre .0) (entry .pre .1) ((loop .j) + 1) (omega arith) (c .if1 .left))
 
 element-copy-out-west : tie.Need-element-copy-out-west Inv-loop μ-loop
-element-copy-out-west c = omega (arith, index-inside (c .before .before .before .args .ringlet) (c .before .before .before .pre .0) (c .before .before .before .pre .1) ((c .before .before .loop .j) + 1) (omega arith) (c .if1 .left))
+element-copy-out-west c =
+    let entry = c .before .before .before in
+    let loop = c .before .before .loop in
+    omega (arith, index-inside (entry .args .ringlet) (entry .pre .0) (entry .pre .1) ((loop .j) + 1) (omega arith) (c .if1 .left))
 
 mul-east : tie.Need-mul-east Inv-loop μ-loop
-mul-east c = omega (arith, index-inside (c .before .before .before .args .ringlet) (c .before .before .before .pre .0) (c .before .before .before .pre .1) ((c .before .before .loop .j) + 1) (omega arith) (c .if1 .left))
+mul-east c =
+    let entry = c .before .before .before in
+    let loop = c .before .before .loop in
+    omega (arith, index-inside (entry .args .ringlet) (entry .pre .0) (entry .pre .1) ((loop .j) + 1) (omega arith) (c .if1 .left))
 
 element-copy-out-east : tie.Need-element-copy-out-east Inv-loop μ-loop
-element-copy-out-east c = omega (arith, index-inside (c .before .before .before .args .ringlet) (c .before .before .before .pre .0) (c .before .before .before .pre .1) ((c .before .before .loop .j) + 1) (omega arith) (c .if1 .left))
+element-copy-out-east c =
+    let entry = c .before .before .before in
+    let loop = c .before .before .loop in
+    omega (arith, index-inside (entry .args .ringlet) (entry .pre .0) (entry .pre .1) ((loop .j) + 1) (omega arith) (c .if1 .left))
 
 side-requires : tie.Need-side-requires Inv-loop μ-loop
 side-requires c κs = search needs
@@ -62,10 +78,22 @@ loop-less c = search needs
 
 loop-again : tie.Need-loop-again Inv-loop μ-loop
 unfolding blank
-loop-again c = (omega arith, come-on (c .before .before .before .before .before .before .loop .inv .1) (index-held (c .before .before .before .before .before .before .before .args .ringlet) (c .before .before .before .before .before .before .before .pre .0) (c .before .before .before .before .before .before .before .pre .1) ((c .before .before .before .before .before .before .loop .j) + 1) blank (omega arith) (c .before .before .before .before .if1 .left)) (c .before .before .before .side .ensures) (c .before .before .higher .ensures) (c .before .higher2 .ensures) (c .side2 .ensures))
+loop-again c =
+    let entry = c .before .before .before .before .before .before .before in
+    let loop = c .before .before .before .before .before .before .loop in
+    let if1 = c .before .before .before .before .if1 in
+    let side = c .before .before .before .side in
+    let higher = c .before .before .higher in (
+      omega arith,
+      come-on (loop .inv .1)
+          (index-held (entry .args .ringlet) (entry .pre .0) (entry .pre .1) ((loop .j) + 1) blank (omega arith) (if1 .left)) (side .ensures) (higher .ensures)
+          (c .before .higher2 .ensures) (c .side2 .ensures),
+    )
 
 returns-2 : tie.Need-returns-2 Inv-loop μ-loop
-returns-2 c = come-all (c .before .before .args .h) (c .before .loop .inv .1) (c .loop-test .left) (c .before .loop .inv .0)
+returns-2 c =
+    let entry = c .before .before in
+    come-all (entry .args .h) (c .before .loop .inv .1) (c .loop-test .left) (c .before .loop .inv .0)
 
 pub walk-along-spec : {M : Type 1} → statement M
 walk-along-spec =
