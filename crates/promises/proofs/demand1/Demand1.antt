@@ -21,10 +21,10 @@ use Rattle.controller.specs.Node.{choiceOf, stateOf, nodeOf, startedWith}
 use Rattle.controller.specs.Kept.{Kept}
 use Rattle.controller.specs.Promise.{Begun, Recorded}
 use Rattle.promises.specs.Refusals.{numbers, tests, startTests, NoneApplies, FirstApplies}
-use Rattle.promises.proofs.Order.{first-given, none-among, other-first}
-use Rattle.promises.proofs.Results.{recorded-result, answer-refused, buffer-refused}
-use Rattle.promises.proofs.Numbers.{taken, agrees, result-listed, not-refused, refused-not-taken}
-use Rattle.promises.proofs.Starting.{taken0, is-zero, start-agrees, start-listed, start-defaults}
+use Rattle.promises.proofs.demand1.Order.{first-given, none-among, other-first}
+use Rattle.promises.proofs.demand1.Results.{recorded-result, answer-refused, buffer-refused}
+use Rattle.promises.proofs.demand1.Numbers.{taken, agrees, result-listed, not-refused, refused-not-taken}
+use Rattle.promises.proofs.demand1.Starting.{taken0, is-zero, start-agrees, start-listed, start-defaults}
 
 -- "a refusal changes nothing in the controller and writes no byte in the caller's buffer".
 pub refusal-changes-nothing : (n : Node) (b old new : List ℕ) (r : Answer) → Kept n → Recorded n b old new r → refusal (r .result) ≡ true

@@ -21,10 +21,10 @@ use Rattle.controller.specs.Kept.{Kept}
 use Rattle.controller.specs.Promise.{Begun, Recorded}
 use Rattle.controller.proofs.Nodes.{answer-kept, started-with-kept}
 use Rattle.promises.specs.Possible.{areBytes}
-use Rattle.promises.proofs.Possible.{are-bytes}
+use Rattle.promises.proofs.demand2.Possible.{are-bytes}
 use Rattle.promises.specs.Examples.{address, tick, link, report, attributes, settings}
 use Rattle.promises.specs.Refusals.{Test, tests, startTests, NoneApplies, FirstApplies}
-use Rattle.promises.proofs.Order.{firstOf, found}
+use Rattle.promises.proofs.demand1.Order.{firstOf, found}
 
 -- The numbers of all tests that apply, in the order of the tests.
 unfoldable pub applying : List Test → State → List ℕ → ℕ → List ℕ

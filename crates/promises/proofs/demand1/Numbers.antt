@@ -25,8 +25,8 @@ use Rattle.controller.specs.State.{State, spanOf}
 use Rattle.controller.specs.Handling.{acted, gives, hearing, taking, learning}
 use Rattle.controller.specs.Record.{refusal, outcome}
 use Rattle.promises.specs.Refusals.{numbers, isMalformed, tests}
-use Rattle.promises.proofs.Order.{of-all, firstOf, Agrees, all-results}
-use Rattle.promises.proofs.Results.{given, result-is}
+use Rattle.promises.proofs.demand1.Order.{of-all, firstOf, Agrees, all-results}
+use Rattle.promises.proofs.demand1.Results.{given, result-is}
 
 -- "After 0 and 20 to 24 the closing steps run": the numbers of a record that is not refused.
 abbrev pub taken : List ℕ

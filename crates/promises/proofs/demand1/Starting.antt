@@ -16,7 +16,7 @@ use Rattle.blocks.specs.Types.{among}
 use Rattle.controller.specs.State.{State, started}
 use Rattle.controller.specs.Node.{choiceOf, nodeOf, startedWith}
 use Rattle.promises.specs.Refusals.{startTests}
-use Rattle.promises.proofs.Order.{of-all, firstOf, Agrees, all-results}
+use Rattle.promises.proofs.demand1.Order.{of-all, firstOf, Agrees, all-results}
 
 module _ (s : State) (b : List ℕ) (room : ℕ) (P : Option ℕ → SettingsRead → Type 0) (broke : P (some 2) (refused 2))
     (other : P (some 3) (refused 3)) (unfit : P (some 4) (refused 4)) (took : (x : Settings) → P none (taken x)) where

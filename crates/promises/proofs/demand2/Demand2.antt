@@ -12,8 +12,8 @@ use Rattle.controller.specs.declared.node.Started.{Started}
 use Rattle.controller.specs.Promise.{Begun}
 use Rattle.controller.specs.Node.{stateOf, westRequest, eastRequest}
 use Rattle.promises.specs.History.{after, answered, Always, startOf, Made, callOf, callsOf, nodeAfter, Met, Ruled, AnsweredAs}
-use Rattle.promises.proofs.Telling.{report-tells, silent-stays}
-use Rattle.promises.proofs.Coming.{ruled, answered-as}
+use Rattle.promises.proofs.demand2.Telling.{report-tells, silent-stays}
+use Rattle.promises.proofs.demand2.Coming.{ruled, answered-as}
 
 -- Every node is that of the rules, at every point.
 pub demand2 : (b : List ℕ) (st : Started) → Begun b st → (h : List Made) → Met st h

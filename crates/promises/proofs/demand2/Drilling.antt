@@ -11,8 +11,8 @@ use Rattle.controller.specs.Node.{stateOf, startedWith}
 use Rattle.promises.specs.History.{Call, after, answered, startOf, AllBytes, Made, callsOf, nodeAfter, Met, AnsweredAs}
 use Rattle.promises.specs.Possible.{Handed, AllHanded, made}
 use Rattle.promises.specs.Drilled.{callsFor, Drilled}
-use Rattle.promises.proofs.Coming.{state-after, answered-as}
-use Rattle.promises.proofs.Possible.{begins, made-met}
+use Rattle.promises.proofs.demand2.Coming.{state-after, answered-as}
+use Rattle.promises.proofs.demand2.Possible.{begins, made-met}
 
 -- What the latest call of a history is answered.
 abbrev pub lastOf : State → List Call → Outcome

@@ -15,7 +15,7 @@ use Rattle.controller.specs.Node.{stateOf}
 use Rattle.controller.specs.Promise.{Begun}
 use Rattle.promises.specs.History.{Call, after, answered, Always, startOf, Made, callsOf, nodeAfter, Met}
 use Rattle.promises.specs.Levels.{NoEight, latest, noBlocks, knowing, Levelled, SameAnswer, SameResult, withLevel, NoEightMade}
-use Rattle.promises.proofs.TwoNodes.{at-one-point, same-answers, nodes-levelled, calls-alike}
+use Rattle.promises.proofs.demand3.TwoNodes.{at-one-point, same-answers, nodes-levelled, calls-alike}
 
 -- To the rules: c are the settings of the larger node, K the types that the smaller knows, h the calls, the latest first.
 module _ (c : Choice) (K : List ℕ) (sub : Sub K (c .known)) where

@@ -4,7 +4,7 @@ use mathlib.Core.Path.{_≡_, refl, _∙_, ap}
 use mathlib.Core.Bool.{Bool, true, false, cond, _||_, true≢false}
 use mathlib.Core.List.{List, [], _∷_, _++_}
 use mathlib.Core.Option.{some, Option·none-ne-some}
-use Rattle.blocks.specs.Entries.{Entry, entries}
+use Rattle.blocks.specs.Entries.{Entry}
 use Rattle.blocks.specs.Meaning.{behind}
 use Rattle.blocks.specs.Levels.{First}
 use Rattle.promises.specs.Levels.{stops, anyStops, FirstUnknown}

@@ -19,8 +19,8 @@ use Rattle.controller.specs.Record.{Outcome, closed, unlessRefused, outcomeOf, 
 use Rattle.controller.proofs.Holding.{outcome-choice}
 use Rattle.promises.specs.History.{Call, after, answered}
 use Rattle.promises.specs.Levels.{NoEight, blockHeard, takenOrAside, newer, latest, dressed, Levelled, attributesBy, under}
-use Rattle.promises.proofs.Step.{Alike, step}
-use Rattle.promises.proofs.Showing.{levelled}
+use Rattle.promises.proofs.demand3.Step.{Alike, step}
+use Rattle.promises.proofs.demand3.Showing.{levelled}
 
 -- The settings stay.
 pub choice-after : (s : State) (h : List Call) → after s h .choice ≡ s .choice

@@ -22,7 +22,7 @@ use Rattle.controller.specs.Node.{startedWith, asked}
 use Rattle.promises.specs.History.{Call, after, answered, startOf, callsOf, Met}
 use Rattle.promises.specs.Levels.{NoEight, latest, noBlocks, saysBehind, withLevel, NoEightMade}
 use Rattle.promises.specs.Possible.{Handed, AllHanded, made, areBytes}
-use Rattle.promises.proofs.Possible.{begins, made-met, calls-made, are-bytes}
+use Rattle.promises.proofs.demand2.Possible.{begins, made-met, calls-made, are-bytes}
 use Rattle.promises.specs.Examples.{settings, station, link, report, attributes, shownAs}
 
 -- The calls, the latest first, each with room for a report.

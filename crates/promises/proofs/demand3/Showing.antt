@@ -21,8 +21,8 @@ use Rattle.controller.specs.State.{State}
 use Rattle.controller.specs.declared.ask.Shown.{Shown}
 use Rattle.controller.specs.Node.{westRequest, eastRequest, steered, shown, asked}
 use Rattle.promises.specs.Levels.{FirstUnknown, dressed, saysBehind, valueShown, Levelled, attributesBy, under}
-use Rattle.promises.proofs.First.{unknown-of, of-unknown}
-use Rattle.promises.proofs.Dress.{present-dressed, attributes-dressed, hop-dressed, way-dressed, twice-dressed}
+use Rattle.promises.proofs.demand3.First.{unknown-of, of-unknown}
+use Rattle.promises.proofs.demand3.Dress.{present-dressed, attributes-dressed, hop-dressed, way-dressed, twice-dressed}
 
 abbrev replyOf : Shown → ℕ
 replyOf x = x .reply

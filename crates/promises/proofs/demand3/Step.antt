@@ -27,7 +27,7 @@ use Rattle.controller.specs.Handling.{acted, gives, hearing, taking, learning, 
 use Rattle.controller.specs.Closing.{purgedIf, swept, isTick}
 use Rattle.controller.specs.Record.{Outcome, refusal, closed, unlessRefused, outcomeOf}
 use Rattle.promises.specs.Levels.{blockHeard, takenOrAside, newer, latestNow, knowing, dressed, SameResult, attributesBy, under}
-use Rattle.promises.proofs.Dress.{dressedPlaced, pickPlaced, present-dressed, aged-dressed, purged-dressed, given-dressed, same-dressed, placed-dressed}
+use Rattle.promises.proofs.demand3.Dress.{dressedPlaced, pickPlaced, present-dressed, aged-dressed, purged-dressed, given-dressed, same-dressed, placed-dressed}
 
 -- The answer x of a node that knows K goes with the answer o of the larger one: the same state but for the attributes, which are those of g; the same report;
 -- the same result but for 24 and 0.

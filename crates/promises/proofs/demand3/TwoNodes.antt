@@ -17,9 +17,9 @@ use Rattle.controller.specs.Node.{choiceOf, stateOf}
 use Rattle.controller.specs.Promise.{Begun}
 use Rattle.promises.specs.History.{Call, after, answered, startOf, Made, callOf, callsOf, nodeAfter, Met}
 use Rattle.promises.specs.Levels.{NoEight, latest, noBlocks, knowing, dressed, Levelled, SameAnswer, SameResult, withLevel, NoEightMade}
-use Rattle.promises.proofs.Following.{answers, follows, levels}
-use Rattle.promises.proofs.Coming.{state-after, answered-as}
-use Rattle.promises.proofs.Drilling.{lastOf}
+use Rattle.promises.proofs.demand3.Following.{answers, follows, levels}
+use Rattle.promises.proofs.demand2.Coming.{state-after, answered-as}
+use Rattle.promises.proofs.demand2.Drilling.{lastOf}
 
 -- To the rules: c are the settings of the larger node, K the types that the smaller knows, h the calls, the latest first.
 module _ (c : Choice) (K : List ℕ) (sub : Sub K (c .known)) where

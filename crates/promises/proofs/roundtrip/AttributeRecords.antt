@@ -15,7 +15,7 @@ use Rattle.controller.specs.Reading.{reading}
 use Rattle.controller.proofs.Bodies.{block-said, kind-block, read-whole}
 use Rattle.blocks.specs.Writing.{weightBytes, bandwidthBytes, bytesAt}
 use Rattle.promises.specs.Written.{addressBytes, attributeRecord}
-use Rattle.promises.proofs.ByteLists.{Small, bytes-before, small-bytes}
+use Rattle.promises.proofs.roundtrip.ByteLists.{Small, bytes-before, small-bytes}
 
 module _ (span a : ℕ) (block : List ℕ) where
   abbrev card : List ℕ

@@ -39,11 +39,11 @@ use Rattle.promises.specs.Examples.{report, settings, station}
 use Rattle.promises.specs.Possible.{areBytes, allBytes}
 use Rattle.promises.specs.Drilled.{callsFor}
 use Rattle.promises.specs.Written.{attributeRecord, values}
-use Rattle.promises.proofs.Possible.{are-bytes, all-bytes}
-use Rattle.promises.proofs.AfterKept.{after-kept}
-use Rattle.promises.proofs.Quiet.{withStations, block-closes-nothing}
-use Rattle.promises.proofs.AttributeRecords.{attributes-read, record-bytes, written-bytes}
-use Rattle.promises.proofs.Taking.{carried, of-present, given-back, learning-values}
+use Rattle.promises.proofs.demand2.Possible.{are-bytes, all-bytes}
+use Rattle.promises.proofs.demand2.AfterKept.{after-kept}
+use Rattle.promises.proofs.roundtrip.Quiet.{withStations, block-closes-nothing}
+use Rattle.promises.proofs.roundtrip.AttributeRecords.{attributes-read, record-bytes, written-bytes}
+use Rattle.promises.proofs.roundtrip.Taking.{carried, of-present, given-back, learning-values}
 
 module _ (s : State) (k : StateKept s) (span a room : ℕ) (side : span ≤ 1) (there : present a (s .stations) ≡ true) (enough : 7 ≤ room) where
   -- The record is read: a station of the table has an even address that is not the own one.

@@ -24,8 +24,8 @@ use Rattle.promises.specs.Steering.{said, StandsAt, Clear}
 use Rattle.promises.specs.Drilled.{callsFor}
 use Rattle.promises.specs.Examples.{station, link, report, settings, ring}
 use Rattle.promises.specs.Possible.{allBytes}
-use Rattle.promises.proofs.Possible.{all-bytes}
-use Rattle.promises.proofs.Steering.{west-clear, east-clear}
+use Rattle.promises.proofs.demand2.Possible.{all-bytes}
+use Rattle.promises.proofs.steering.Steering.{west-clear, east-clear}
 
 -- Node 1 of the examples, in ticks.
 abbrev one : Choice

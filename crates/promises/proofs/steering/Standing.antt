@@ -17,7 +17,7 @@ use Rattle.ways.specs.Walk.{Ends, near, far, held}
 use Rattle.ways.specs.Choice.{hopOf}
 use Rattle.ways.specs.Usable.{startOf, Open}
 use Rattle.promises.specs.Steering.{StandsAt, Leaves, Clear}
-use Rattle.promises.proofs.Saying.{endsOf, Says}
+use Rattle.promises.proofs.steering.Saying.{endsOf, Says}
 
 never : {A : Type 0} → _≡_ {A = ℕ} 0 1 → A
 never z = absurd (omega arith)

@@ -25,10 +25,10 @@ use Rattle.controller.specs.Promise.{Begun}
 use Rattle.controller.specs.Node.{choiceOf, stateOf, westRequest, eastRequest, steered}
 use Rattle.promises.specs.History.{Call, after, AllBytes, startOf, Made, callsOf, nodeAfter, Met}
 use Rattle.promises.specs.Steering.{said, StandsAt, Clear}
-use Rattle.promises.proofs.AfterKept.{after-kept}
-use Rattle.promises.proofs.Coming.{ruled}
-use Rattle.promises.proofs.Saying.{call-says}
-use Rattle.promises.proofs.Standing.{open-clear, stands-once}
+use Rattle.promises.proofs.demand2.AfterKept.{after-kept}
+use Rattle.promises.proofs.demand2.Coming.{ruled}
+use Rattle.promises.proofs.steering.Saying.{call-says}
+use Rattle.promises.proofs.steering.Standing.{open-clear, stands-once}
 
 -- The requests in the table are those last said, on the history.
 pub said-is-stored : (c : Choice) (h : List Call)

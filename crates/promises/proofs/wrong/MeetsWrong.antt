@@ -8,8 +8,8 @@ use Rattle.promises.specs.History.{Made}
 use Rattle.promises.specs.Examples.{tick, link, report, settings, P7, P10, P11, P12}
 use Rattle.promises.specs.Possible.{areBytes, allBytes}
 use Rattle.promises.specs.Drilled.{callsFor, Drilled}
-use Rattle.promises.proofs.Possible.{are-bytes, all-bytes}
-use Rattle.promises.proofs.Drilling.{drill-runs}
+use Rattle.promises.proofs.demand2.Possible.{are-bytes, all-bytes}
+use Rattle.promises.proofs.demand2.Drilling.{drill-runs}
 
 -- A program answers as the rules do, and its calls are these.
 abbrev pub Runs : List ℕ → List (List ℕ) → Type 0

@@ -28,8 +28,8 @@ use Rattle.controller.specs.Promise.{Begun}
 use Rattle.promises.specs.History.{after, startOf, Made, nodeAfter}
 use Rattle.promises.specs.Examples.{tick, link, report, settings, station, P7, P10, P11, P12}
 use Rattle.promises.specs.Drilled.{callsFor, Drilled}
-use Rattle.promises.proofs.Demand2.{demand2-silent}
-use Rattle.promises.proofs.Drilling.{lastOf, drill-state, drill-answer, drill-room, drill-before}
+use Rattle.promises.proofs.demand2.Demand2.{demand2-silent}
+use Rattle.promises.proofs.demand2.Drilling.{lastOf, drill-state, drill-answer, drill-room, drill-before}
 
 -- What the rules give at the inputs below, by computation.
 abbrev stateIn : List (List ℕ) → State

@@ -1,0 +1,7 @@
+-- Demand 2: after any history the program is that of the rules. In the order of reading.
+pub mod Possible
+pub mod AfterKept
+pub mod Coming
+pub mod Drilling
+pub mod Telling
+pub mod Demand2

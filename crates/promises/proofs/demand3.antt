@@ -1,0 +1,9 @@
+-- Demand 3: two nodes of which one knows fewer types. In the order of reading.
+pub mod First
+pub mod Dress
+pub mod Step
+pub mod Showing
+pub mod Following
+pub mod TwoNodes
+pub mod Demand3
+pub mod Meets3
