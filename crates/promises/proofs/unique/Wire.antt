@@ -15,6 +15,9 @@ word-at-unique = (λ w κs a x e. refl, λ κs a x y e f p q. p ∙ sym q)
 pub high-word-at-unique : Fixes wire.high_word_at.ended wire.high_word_at.Reads.ensures wire.high_word_at.Reads.Post
 high-word-at-unique = (λ w κs a x e. refl, λ κs a x y e f p q. p ∙ sym q)
 
+pub joined-unique : Fixes wire.joined.ended wire.joined.Reads.ensures wire.joined.Reads.Post
+joined-unique = (λ w κs a x e. refl, λ κs a x y e f p q. p ∙ sym q)
+
 pub address-at-unique : Fixes wire.address_at.ended wire.address_at.Reads.ensures wire.address_at.Reads.Post
 address-at-unique = (λ w κs a x e. refl, λ κs a x y e f p q. p ∙ sym q)
 
