@@ -16,4 +16,5 @@ pub mod Shifts
 pub mod Others
 pub mod Losing
 pub mod Places
+pub mod Numbers
 pub mod Hearings

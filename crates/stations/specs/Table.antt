@@ -64,5 +64,15 @@ unfoldable pub found : ℕ → List Station → Found
 unfolding foundFrom
 found a l = foundFrom 0 a l
 
+-- 01: "Whenever an answer is an enum, a definition gives this paper's number and values for each of the enum's cases."
+-- 3 "not in the table"; else 0, and the place.
+abbrev pub foundNumber : Found → ℕ
+foundNumber Nothing = 3
+foundNumber (At i) = 0
+
+abbrev pub foundValues : Found → List ℕ
+foundValues Nothing = []
+foundValues (At i) = i ∷ []
+
 abbrev pub hearingOf : Placed → Hearing
 hearingOf p = record { table = tableOf (p .stations); result = p .result }
