@@ -24,11 +24,13 @@ FILENAME == list { next }
 
 END {
     for (i = 1; i <= items; i++) learn(i, file[i])
+    for (k in root) if (k "." in brought || k in own) { split(k, w, SUBSEP); tell(w[1], "`" w[2] "` is the name of a library, and of something else") }
     for (i = 1; i <= items; i++) if (type[i] != "") judge(i, file[i])
     for (k = 1; k <= needs; k++) {
         if (met[need[k]] == 0) say(words(need[k]) " has no theorem")
         if (met[need[k]] > 1) say(words(need[k]) " has " met[need[k]] " theorems:" by[need[k]])
     }
+    for (short in exported) if (exported[short] ~ /\.[a-z_0-9]+$/ && !(exported[short] in public)) say(short " is exported, and " exported[short] " is no public function")
     print "promised: " functions " public functions, " needs - functions " lent parameters, " theorems + 0 " theorems"
     exit wrong
 }
@@ -45,6 +47,7 @@ function words(key,    w) {
 
 function add_needs(path, lent, answer,    n, k, p) {
     functions++
+    public[path] = 1
     need[++needs] = path " " answer
     if (lent == "-") return
     n = split(lent, p, ",")
@@ -85,8 +88,10 @@ function learn(i, f,    n, p) {
 
 # A module is kept with a dot behind its name, since a module and an item may share a name.
 function bring(f, word, path) {
-    if ((f, word) in brought || word ~ /^Rattle·/) tell(f, "`" word "` stands for two things")
+    if ((f, word) in brought) tell(f, "`" word "` stands for two things")
     brought[f, word] = path
+    sub(/\..*/, "", path)
+    root[f, path] = 1
 }
 
 function take_names(f, s,    module, n, k, names, w) {
@@ -140,8 +145,8 @@ function judge(i, f,    n, p, path, E, fixed, key) {
     theorems++
     n = parts_of(type[i], p)
     if (p[1] == "Fixes" && n == 4) { fixed = "answer"; E = p[3] }
-    if (p[1] == "FixesPart" && n == 6) { fixed = part_taken(f, p[4]); E = p[5] }
-    if (!(p[1] == "Fixes" && n == 4 || p[1] == "FixesPart" && n == 6) || !taken(f, p[1], unique)) return tell(f, name[i] ": `" type[i] "` is no theorem of uniqueness")
+    else if (p[1] == "FixesPart" && n == 6) { fixed = part_taken(f, p[4]); E = p[5] }
+    if (E == "" || !taken(f, p[1], unique)) return tell(f, name[i] ": `" type[i] "` is no theorem of uniqueness")
     if (fixed == "") return tell(f, name[i] ": `" p[4] "` takes neither a lent parameter nor what the answer shows")
     path = target(f, p[2], ".ended")
     if (path == "") return tell(f, name[i] ": `" p[2] "` is no function of a crate")
