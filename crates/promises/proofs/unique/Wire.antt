@@ -21,9 +21,6 @@ joined-unique = (λ w κs a x e. refl, λ κs a x y e f p q. p ∙ sym q)
 pub address-at-unique : Fixes wire.address_at.ended wire.address_at.Reads.ensures wire.address_at.Reads.Post
 address-at-unique = (λ w κs a x e. refl, λ κs a x y e f p q. p ∙ sym q)
 
-pub odd-unique : Fixes wire.odd.ended wire.odd.Reads.ensures wire.odd.Reads.Post
-odd-unique = (λ w κs a x e. refl, λ κs a x y e f p q. p ∙ sym q)
-
 pub odd-first-unique : Fixes wire.odd_first.ended wire.odd_first.Reads.ensures wire.odd_first.Reads.Post
 odd-first-unique = (λ w κs a x e. refl, λ κs a x y e f p q. p ∙ sym q)
 
