@@ -11,12 +11,12 @@ ghost use Rattle.stations.specs.Stations.{displaced};
 ghost use Rattle.stations.specs.Steps.{anyOther};
 ghost use Rattle.stations.specs.Table.{TableKept, live, tableOf};
 
-// Another station than the report's, at its hop.
-fn is_other(hop: u8, at: u8, address: u64, own: u64) -> bool
-    ensures { λ r. ⌜ r ≡ eqb hop at && not (eqb address own) ⌝ }
+// A station at the report's hop, and not the one that it comes from.
+fn is_other(hop: u8, at: u8, address: u64, reporter: u64) -> bool
+    ensures { λ r. ⌜ r ≡ eqb hop at && not (eqb address reporter) ⌝ }
 {
     if hop == at {
-        return address != own;
+        return address != reporter;
     }
     false
 }
@@ -57,7 +57,8 @@ fn is_held(t: Table, p: Report) -> bool
     false
 }
 
-fn sweep(mut t: Table, p: Report) -> Table
+// As `displace_others`, over the whole table.
+fn clear_hop(mut t: Table, p: Report) -> Table
     requires { ⌜ TableKept t ⌝ }
     ensures { λ r. ⌜ r ≡ tableOf (displaced p (live t)) ⌝ }
 {
@@ -100,7 +101,7 @@ pub(crate) fn displace_others(t: Table, p: Report) -> Table
     ensures { λ r. ⌜ r ≡ tableOf (displaced p (live t)) ⌝ }
 {
     if is_held(t, p) {
-        return sweep(t, p);
+        return clear_hop(t, p);
     }
     t
 }

@@ -4,15 +4,20 @@ use crate::find::Found;
 use crate::find::find_station;
 use crate::insert::insert_station;
 use crate::station::Report;
-use crate::station::far;
+use crate::station::distance;
 use crate::station::hear_again;
 use crate::station::join;
+use crate::table::PLACES;
 use crate::table::Table;
+use wire::results;
 ghost use mathlib.Core.Path.{_≡_};
 ghost use Prim.Native.Nat.{_<_};
 ghost use lib.ListN.{set, getD};
 ghost use Rattle.stations.specs.Hearing.{distance, heardAgain, placed, placedNew, placedKnown};
 ghost use Rattle.stations.specs.Table.{TableKept, blank, live, tableOf, found, At, hearingOf};
+
+// "129 to 255 is result 22".
+const LAST_NEWER: u8 = 128;
 
 #[repr(C)]
 pub struct Hearing {
@@ -26,19 +31,19 @@ fn hear_new(t: Table, p: Report) -> Hearing
     ensures { λ r. ⌜ r ≡ hearingOf (placedNew p (live t)) ⌝ }
 {
     let u = displace_others(t, p);
-    if u.count < 63 {
+    if u.count < PLACES {
         return Hearing {
             table: insert_station(u, join(p)),
-            result: 0,
+            result: results::TAKEN,
         };
     }
     Hearing {
         table: t,
-        result: 23,
+        result: results::NO_PLACE,
     }
 }
 
-// The station at a place hears from itself again.
+// The station at a place is heard again, its report at a distance from the one before.
 fn renew_at(mut t: Table, at: usize, p: Report, distance: u8) -> Table
     requires { ⌜ TableKept t × (at < t .count) ⌝ }
     ensures { λ r. ⌜ r ≡ tableOf (set (live t) at (heardAgain distance p (getD (live t) at blank))) ⌝ }
@@ -53,17 +58,17 @@ fn hear_known(t: Table, at: usize, p: Report) -> Hearing
     requires { ⌜ TableKept t × (found (p .address) (live t) ≡ At at) ⌝ }
     ensures { λ r. ⌜ r ≡ hearingOf (placedKnown (distance (p .sequence) (getD (live t) at blank .sequence)) p (live t)) ⌝ }
 {
-    let d = far(p.sequence, t.places[at].sequence);
-    if 128 < d {
+    let d = distance(p.sequence, t.places[at].sequence);
+    if LAST_NEWER < d {
         return Hearing {
             table: t,
-            result: 22,
+            result: results::OLD_REPORT,
         };
     }
     let u = renew_at(t, at, p, d);
     Hearing {
         table: displace_others(u, p),
-        result: 0,
+        result: results::TAKEN,
     }
 }
 

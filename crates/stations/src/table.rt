@@ -4,9 +4,12 @@ ghost use mathlib.Core.Path.{_≡_};
 ghost use mathlib.Core.List.{[]};
 ghost use Rattle.stations.specs.Table.{blank, tableOf};
 
+// "At most 63".
+pub(crate) const PLACES: usize = 63;
+
 #[repr(C)]
 pub struct Table {
-    pub places: [Station; 63],
+    pub places: [Station; PLACES],
     pub count: usize,
 }
 
@@ -37,7 +40,7 @@ impl Table {
         ensures { λ r. ⌜ r ≡ tableOf [] ⌝ }
     {
         let b = blank_station();
-        let places = [b; 63];
+        let places = [b; PLACES];
         Table { places, count: 0 }
     }
 }

@@ -9,8 +9,8 @@ use Rattle.stations.proofs.displace.displace_others.Tie as tie
 is-held-requires : tie.Need-is-held-requires
 is-held-requires c κs = search needs
 
-sweep-requires : tie.Need-sweep-requires
-sweep-requires c κs = search needs
+clear-hop-requires : tie.Need-clear-hop-requires
+clear-hop-requires c κs = search needs
 
 returns : tie.Need-returns
 returns c = search needs
@@ -21,4 +21,4 @@ returns-2 c =
     (entry .pre .whole) ∙ ap tableOf (sym (displaced-none (entry .args .p) (live (entry .args .t)) (sym (c .before .is-held .ensures) ∙ (c .if1 .left))))
 
 pub displace-others-spec : {M : Type 1} → statement M
-displace-others-spec = tie.close (tie.spec is-held-requires sweep-requires returns returns-2)
+displace-others-spec = tie.close (tie.spec is-held-requires clear-hop-requires returns returns-2)

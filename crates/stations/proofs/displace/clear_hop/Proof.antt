@@ -7,8 +7,8 @@ use Rattle.stations.specs.Stations.{undisplaced, losing, displaced}
 use mathlib.Core.Path.{_∙_}
 use Prim.Native.Nat.{_-_}
 use borrow.Author.Needs.{needs}
-use Rattle.stations.proofs.displace.sweep.Statement.{statement}
-use Rattle.stations.proofs.displace.sweep.Tie as tie
+use Rattle.stations.proofs.displace.clear_hop.Statement.{statement}
+use Rattle.stations.proofs.displace.clear_hop.Tie as tie
 
 abbrev Inv-loop : tie.InvT-loop
 Inv-loop p t₀ b n j₀ i₀ t j i = Pass (undisplaced p) (losing p) (live t₀) (t₀ .places) (t .places) j i
@@ -136,8 +136,8 @@ returns c =
     let entry = c .before .before .before in
     pass-end _ _ _ _ (c .before .loop .i) (entry .pre) (c .before .loop .inv) (c .loop-test .left)
 
-pub sweep-spec : {M : Type 1} → statement M
-sweep-spec =
+pub clear-hop-spec : {M : Type 1} → statement M
+clear-hop-spec =
     tie.close
     (tie.spec
     Inv-loop
