@@ -1,6 +1,7 @@
 // The choice of a way.
 use crate::walk::Walked;
 use crate::walk::walk_to;
+use spans::codes::SF;
 use stations::Found;
 use stations::Table;
 ghost use mathlib.Core.Path.{_≡_};
@@ -20,8 +21,6 @@ pub enum Side {
     Closed,
     Open { worst: u8, hops: u8 },
 }
-
-const SF: u8 = 4;
 
 // One direction to a station at hop h of its ringlet.
 fn look(t: Table, ringlet: u8, own: u8, h: u8) -> Side
