@@ -3,7 +3,7 @@ use crate::act::act;
 use crate::close::Closed;
 use crate::close::is_tick;
 use crate::close::leaves_table;
-use crate::close::pace;
+use crate::close::report_requests;
 use crate::close::settle;
 use crate::judge::judge;
 use crate::node::Core;
@@ -12,6 +12,7 @@ use crate::reading::Reading;
 use crate::reading::read_record;
 use settings::Ticks;
 use stations::Table;
+use wire::results;
 ghost use mathlib.Core.Path.{_≡_};
 ghost use Rattle.stations.specs.Table.{TableKept, live, tableOf};
 ghost use Rattle.controller.specs.Closing.{swept};
@@ -95,7 +96,7 @@ fn send(out: &mut [u8], z: Closed)
 }
 
 // A record that was read, with the block that it may carry; its report goes to the front of the output.
-fn advance(mut n: Node, r: Reading, block: &[u8], out: &mut [u8]) -> Answer
+fn take_reading(mut n: Node, r: Reading, block: &[u8], out: &mut [u8]) -> Answer
     requires { ⌜ Kept n × ReadingKept (n .core .settings .address) r ⌝ }
     ensures { λ a. ⌜ Advanced n r (now (block .entry)) (now (out .entry)) (now (out .exit)) a ⌝ }
 {
@@ -103,7 +104,7 @@ fn advance(mut n: Node, r: Reading, block: &[u8], out: &mut [u8]) -> Answer
     let t = c.settings.ticks();
     let d = act(c, t, r);
     let s = settle(d, c, t);
-    let z = pace(s, t, is_tick(r));
+    let z = report_requests(s, t, is_tick(r));
     let core = z.core;
     let wrote = z.wrote;
     if passes(r, s, t) {
@@ -111,7 +112,7 @@ fn advance(mut n: Node, r: Reading, block: &[u8], out: &mut [u8]) -> Answer
         n.core = core;
         return Answer {
             node: n,
-            result: 0,
+            result: results::TAKEN,
             wrote,
         };
     }
@@ -128,14 +129,17 @@ fn advance(mut n: Node, r: Reading, block: &[u8], out: &mut [u8]) -> Answer
     }
 }
 
+// Where the block of an attribute record begins: behind its head, span and address.
+const BLOCK_AT: usize = 11;
+
 // The block of an attribute record.
 fn block_of(b: &[u8]) -> &[u8]
     ensures { λ r. ⌜ now r ≡ blockOf (now (b .entry)) ⌝ }
 {
-    if b.len() < 11 {
+    if b.len() < BLOCK_AT {
         return &b[b.len()..];
     }
-    &b[11..]
+    &b[BLOCK_AT..]
 }
 
 // A node takes a record from any bytes, with a buffer for the report: the refusals 1 to 8, or 0 and 20 to 24.
@@ -143,10 +147,10 @@ pub fn take_record(n: Node, bytes: &[u8], out: &mut [u8]) -> Answer
     requires { ⌜ Kept n ⌝ }
     ensures { λ a. ⌜ Recorded n (now (bytes .entry)) (now (out .entry)) (now (out .exit)) a ⌝ }
 {
-    if out.len() < 7 {
-        return refuse(n, 1);
+    if out.len() < wire::REPORT_LENGTH {
+        return refuse(n, results::NO_ROOM);
     }
     let c = n.core;
     let r = read_record(bytes, c.settings.address);
-    advance(n, r, block_of(bytes), out)
+    take_reading(n, r, block_of(bytes), out)
 }

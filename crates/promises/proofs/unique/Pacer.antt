@@ -11,11 +11,8 @@ use Rattle.promises.specs.Unique.{Fixes, FixesPart}
 pub pacer-at-start-unique : Fixes Pacer.at_start.ended Pacer.at_start.Reads.ensures Pacer.at_start.Reads.Post
 pacer-at-start-unique = (λ w κs a x e. refl, λ κs a x y e f p q. p ∙ sym q)
 
-pub step-unique : Fixes pacer.step.ended pacer.step.Reads.ensures pacer.step.Reads.Post
-step-unique = (λ w κs a x e. refl, λ κs a x y e f p q. p ∙ sym q)
-
-pub advance-unique : Fixes pacer.advance.ended pacer.advance.Reads.ensures pacer.advance.Reads.Post
-advance-unique = (λ w κs a x e. refl, λ κs a x y e f p q. p ∙ sym q)
+pub pace-copy-unique : Fixes pacer.pace_copy.ended pacer.pace_copy.Reads.ensures pacer.pace_copy.Reads.Post
+pace-copy-unique = (λ w κs a x e. refl, λ κs a x y e f p q. p ∙ sym q)
 
 -- `pace` lends a struct, so no plain type is generated for it.
 abbrev pub pacePromise : Promise pacer.pace.ended

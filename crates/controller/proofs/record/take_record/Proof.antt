@@ -19,8 +19,8 @@ read-record-requires c κs = search needs
 block-of-requires : tie.Need-block-of-requires
 block-of-requires c κs = search needs
 
-advance-requires : tie.Need-advance-requires
-advance-requires c κs =
+take-reading-requires : tie.Need-take-reading-requires
+take-reading-requires c κs =
     let entry = c .before .before .before .before .before .before .before in
     let shared-slice-known = c .before .before .before .before .before .before .shared-slice-known in
     let read-record = c .before .before .read-record in
@@ -36,9 +36,9 @@ returns-2 c =
     let if1 = c .before .before .before .before .before .before .before .if1 in
     let read-record = c .before .before .before .before .before .read-record in
     let block-of = c .before .before .before .before .block-of in
-    let advance = c .before .before .advance in
+    let take-reading = c .before .before .take-reading in
     recorded (entry .args .n) (entry .pre) (entry .args .bytes .now) (entry .args .out .now) _ _ _ _ (λ i. (shared-slice-known .given) i .fits)
-    (if1 .left) (read-record .ensures) (block-of .ensures) (advance .ensures)
+    (if1 .left) (read-record .ensures) (block-of .ensures) (take-reading .ensures)
 
 pub take-record-spec : {M : Type 1} → statement M
 take-record-spec =
@@ -48,6 +48,6 @@ take-record-spec =
     returns
     read-record-requires
     block-of-requires
-    advance-requires
+    take-reading-requires
     same-length
     returns-2)

@@ -2,8 +2,8 @@
 use mathlib.Core.Path.{sym, _∙_}
 use Rattle.controller.proofs.Records.{forget-fits, judged-table, refused, taken, passed}
 use borrow.Author.Needs.{needs}
-use Rattle.controller.proofs.record.advance.Statement.{statement}
-use Rattle.controller.proofs.record.advance.Tie as tie
+use Rattle.controller.proofs.record.take_reading.Statement.{statement}
+use Rattle.controller.proofs.record.take_reading.Tie as tie
 
 ticks-requires : tie.Need-ticks-requires
 ticks-requires c κs = search needs
@@ -17,8 +17,8 @@ settle-requires c κs = search needs
 is-tick-requires : tie.Need-is-tick-requires
 is-tick-requires c κs = search needs
 
-pace-requires : tie.Need-pace-requires
-pace-requires c κs = search needs
+report-requests-requires : tie.Need-report-requests-requires
+report-requests-requires c κs = search needs
 
 passes-requires : tie.Need-passes-requires
 passes-requires c κs = search needs
@@ -36,12 +36,12 @@ returns c =
     let act = c .before .before .before .before .before .before .before .before .before .before .act in
     let settle = c .before .before .before .before .before .before .before .before .before .settle in
     let is-tick = c .before .before .before .before .before .before .before .before .is-tick in
-    let pace = c .before .before .before .before .before .before .before .pace in
+    let reported = c .before .before .before .before .before .before .before .report-requests in
     let passes = c .before .before .before .before .before .passes in
     let if1 = c .before .before .before .before .if1 in
     let send = c .before .before .send in
     passed (entry .args .n) (entry .pre .0) (entry .args .r) (entry .args .block .now) (ticks .ensures) (act .ensures) (settle .ensures)
-    (is-tick .ensures) (pace .ensures) (sym (passes .ensures) ∙ (if1 .taken)) (entry .args .out .now) _ (send .ensures)
+    (is-tick .ensures) (reported .ensures) (sym (passes .ensures) ∙ (if1 .taken)) (entry .args .out .now) _ (send .ensures)
 
 judge-requires : tie.Need-judge-requires
 judge-requires c κs =
@@ -93,24 +93,24 @@ returns-3 c =
     let act = c .before .before .before .before .before .before .before .before .before .before .before .before .before .before .act in
     let settle = c .before .before .before .before .before .before .before .before .before .before .before .before .before .settle in
     let is-tick = c .before .before .before .before .before .before .before .before .before .before .before .before .is-tick in
-    let pace = c .before .before .before .before .before .before .before .before .before .before .before .pace in
+    let reported = c .before .before .before .before .before .before .before .before .before .before .before .report-requests in
     let judge = c .before .before .before .before .before .before .before .judge in
     let is-refusal = c .before .before .before .before .before .before .is-refusal in
     let if2 = c .before .before .before .before .before .if2 in
     let send2 = c .before .before .before .send2 in
     taken (entry .args .n) (entry .pre .0) (entry .args .r) (entry .args .block .now) (ticks .ensures) (act .ensures) (settle .ensures)
-    (is-tick .ensures) (pace .ensures) (judge .ensures) (sym (is-refusal .ensures) ∙ (if2 .left)) (c .sweep .ensures) (entry .args .out .now) _
+    (is-tick .ensures) (reported .ensures) (judge .ensures) (sym (is-refusal .ensures) ∙ (if2 .left)) (c .sweep .ensures) (entry .args .out .now) _
     (send2 .ensures)
 
-pub advance-spec : {M : Type 1} → statement M
-advance-spec =
+pub take-reading-spec : {M : Type 1} → statement M
+take-reading-spec =
     tie.close
     (tie.spec
     ticks-requires
     act-requires
     settle-requires
     is-tick-requires
-    pace-requires
+    report-requests-requires
     passes-requires
     send-requires
     same-length
