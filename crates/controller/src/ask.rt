@@ -10,6 +10,13 @@ ghost use mathlib.Core.Option.{some};
 ghost use lib.ListN.{length};
 ghost use Rattle.controller.specs.Node.{stateOf, westRequest, eastRequest, steered, shown, asked};
 
+// The replies of `attributes`.
+const WITH_VALUES: u8 = 0;
+
+const BEHIND: u8 = 1;
+
+const UNKNOWN: u8 = 3;
+
 // The attributes of a station: 0 with values, 1 behind with the type, 3 not in the table; what is not used is 0.
 #[repr(C)]
 pub struct Shown {
@@ -37,9 +44,9 @@ fn behind_number(behind: bool) -> u8
     ensures { λ r. ⌜ r ≡ cond behind 1 0 ⌝ }
 {
     if behind {
-        return 1;
+        return BEHIND;
     }
-    0
+    WITH_VALUES
 }
 
 // What a station shows.
@@ -69,7 +76,7 @@ pub fn attributes(n: Node, address: u64) -> Shown
             reserved1: 0,
             weight0: 0,
             weight1: 0,
-            reply: 3,
+            reply: UNKNOWN,
         },
         Found::At(at) => shown_of(stations::attributes_at(n.table, at)),
     }
@@ -93,7 +100,7 @@ pub fn east_request(n: Node) -> u8
     spans::request(c.east, c.settings.ticks())
 }
 
-// The own sequence: that of the latest report.
+// The own sequence: 0 at start, then that of the latest report.
 pub fn own_sequence(n: Node) -> u8
     requires { ⌜ Kept n ⌝ }
     ensures { λ r. ⌜ r ≡ stateOf n .pacer .sequence ⌝ }

@@ -9,6 +9,7 @@ use stations::Found;
 use stations::Hearing;
 use stations::Report;
 use stations::Table;
+use wire::results;
 ghost use mathlib.Core.Path.{_≡_};
 ghost use Prim.Native.Nat.{_<_, _^_};
 ghost use Rattle.blocks.specs.Types.{knows};
@@ -33,11 +34,11 @@ fn hear(table: Table, c: Core, t: Ticks, n: u8, p: Report) -> Hearing
 {
     if p.ringlet == n {
         if spans::down(span_of(c, n), t) {
-            return same(table, 21);
+            return same(table, results::SPAN_DOWN);
         }
         return stations::hear_report(table, p);
     }
-    same(table, 20)
+    same(table, results::WRONG_RINGLET)
 }
 
 // The attributes of a block that was taken or set aside.
@@ -58,8 +59,13 @@ fn read_in(table: Table, address: u64, block: &[u8], level: u8) -> Hearing
 {
     let read = blocks::read_block(block, level);
     match read {
-        Block::Malformed => same(table, 8),
-        Block::Aside(kind) => give(table, address, Attributes::behind_with(kind), 24),
+        Block::Malformed => same(table, results::MALFORMED),
+        Block::Aside(kind) => give(
+            table,
+            address,
+            Attributes::behind_with(kind),
+            results::SET_ASIDE,
+        ),
         Block::Values {
             weight0,
             weight1,
@@ -74,7 +80,7 @@ fn read_in(table: Table, address: u64, block: &[u8], level: u8) -> Hearing
                 weight1,
                 behind: false,
             };
-            give(table, address, x, 0)
+            give(table, address, x, results::TAKEN)
         }
     }
 }
@@ -85,11 +91,11 @@ fn learn(table: Table, c: Core, t: Ticks, n: u8, address: u64, block: &[u8]) -> 
     ensures { λ r. ⌜ r ≡ hearingOf (learning t n address (meaning (knows (c .settings .level)) (now (block .entry))) (spansIn c) (live table)) ⌝ }
 {
     if spans::down(span_of(c, n), t) {
-        return same(table, 21);
+        return same(table, results::SPAN_DOWN);
     }
     let f = stations::find_station(table, address);
     match f {
-        Found::Nothing => same(table, 7),
+        Found::Nothing => same(table, results::NOT_IN_TABLE),
         Found::At(_) => read_in(table, address, block, c.settings.level),
     }
 }
@@ -100,7 +106,7 @@ fn forget(table: Table, t: Ticks) -> Hearing
 {
     Hearing {
         table: stations::raise_ages(table, t.forget as u16),
-        result: 0,
+        result: results::TAKEN,
     }
 }
 
@@ -112,12 +118,12 @@ pub(crate) fn judge(table: Table, c: Core, t: Ticks, r: Reading, block: &[u8]) -
     match r {
         Reading::Refused(k) => same(table, k),
         Reading::Tick => forget(table, t),
-        Reading::Link { span: _, status: _ } => same(table, 0),
-        Reading::Keepalive(_) => same(table, 0),
+        Reading::Link { span: _, status: _ } => same(table, results::TAKEN),
+        Reading::Keepalive(_) => same(table, results::TAKEN),
         Reading::Operator {
             span: _,
             request: _,
-        } => same(table, 0),
+        } => same(table, results::TAKEN),
         Reading::Heard { span, report } => hear(table, c, t, span, report),
         Reading::Block { span, address } => learn(table, c, t, span, address, block),
     }
