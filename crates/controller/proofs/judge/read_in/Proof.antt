@@ -37,8 +37,9 @@ unfolding blockAt
 returns c =
     let entry = c .before .before .before .before .before in
     let read-block = c .before .before .before .read-block in
-    (c .same .ensures) ∙ ap hearingOf (sym
-    (taking-malformed (entry .args .address) (live (entry .args .table)) (meaning (knows (entry .args .level)) (entry .args .block .now)) (sym (read-block .ensures) ∙ (c .before .enum-told .given .1))))
+    let a = entry .args in
+    (c .same .ensures) ∙ ap hearingOf (sym (taking-malformed (a .address) (live (a .table)) (meaning (knows (a .level)) (a .block .now))
+    (sym (read-block .ensures) ∙ (c .before .enum-told .given .1))))
 
 returns-2 : tie.Need-returns-2
 unfolding blockAt
@@ -46,8 +47,9 @@ returns-2 c =
     let entry = c .before .before .before .before .before .before .before in
     let read-block = c .before .before .before .before .before .read-block in
     let read = c .before .before .before .read in
+    let a = entry .args in
     (c .give .ensures) ∙ rw (c .before .behind-with .ensures) (ap hearingOf
-    (sym (taking-aside (entry .args .address) (live (entry .args .table)) (meaning (knows (entry .args .level)) (entry .args .block .now)) _ (sym (read-block .ensures) ∙ (read .given .1)))))
+    (sym (taking-aside (a .address) (live (a .table)) (meaning (knows (a .level)) (a .block .now)) _ (sym (read-block .ensures) ∙ (read .given .1)))))
 
 returns-3 : tie.Need-returns-3
 unfolding blockAt
@@ -55,8 +57,10 @@ returns-3 c =
     let entry = c .before .before .before .before .before .before in
     let read-block = c .before .before .before .before .read-block in
     let read2 = c .before .before .read2 in
+    let a = entry .args in
     (c .give2 .ensures) ∙ ap hearingOf (sym
-    (taking-values (entry .args .address) (live (entry .args .table)) (meaning (knows (entry .args .level)) (entry .args .block .now)) _ _ _ _ (sym (read-block .ensures) ∙ (read2 .given .1))))
+    (taking-values (a .address) (live (a .table)) (meaning (knows (a .level)) (a .block .now)) _ _ _ _
+    (sym (read-block .ensures) ∙ (read2 .given .1))))
 
 pub read-in-spec : {M : Type 1} → statement M
 read-in-spec =

@@ -17,13 +17,29 @@ down-requires-2 : tie.Need-down-requires-2
 down-requires-2 c κs = search needs
 
 purge-ringlet-requires-2 : tie.Need-purge-ringlet-requires-2
-purge-ringlet-requires-2 c κs = purged-kept (c .before .before .before .before .before .pre) 0 _ (c .before .before .purge-ringlet .ensures)
+purge-ringlet-requires-2 c κs =
+    let entry = c .before .before .before .before .before in
+    let purge-ringlet = c .before .before .purge-ringlet in
+    purged-kept (entry .pre) 0 _ (purge-ringlet .ensures)
 
 returns : tie.Need-returns
-returns c = swept-both (c .before .before .before .before .before .before .pre) (c .before .before .before .before .before .before .args .t) (spansIn (c .before .before .before .before .before .before .args .c)) _ _ (sym (c .before .before .before .before .before .down .ensures) ∙ (c .before .before .before .before .if1 .taken)) (sym (c .before .before .down2 .ensures) ∙ (c .before .if2 .taken)) (c .before .before .before .purge-ringlet .ensures) (c .purge-ringlet2 .ensures)
+returns c =
+    let entry = c .before .before .before .before .before .before in
+    let down = c .before .before .before .before .before .down in
+    let if1 = c .before .before .before .before .if1 in
+    let purge-ringlet = c .before .before .before .purge-ringlet in
+    let down2 = c .before .before .down2 in
+    swept-both (entry .pre) (entry .args .t) (spansIn (entry .args .c)) _ _ (sym (down .ensures) ∙ (if1 .taken)) (sym (down2 .ensures) ∙
+    (c .before .if2 .taken)) (purge-ringlet .ensures) (c .purge-ringlet2 .ensures)
 
 returns-2 : tie.Need-returns-2
-returns-2 c = swept-west (c .before .before .before .before .before .pre) (c .before .before .before .before .before .args .t) (spansIn (c .before .before .before .before .before .args .c)) _ (sym (c .before .before .before .before .down .ensures) ∙ (c .before .before .before .if1 .taken)) (sym (c .before .down2 .ensures) ∙ (c .if2 .left)) (c .before .before .purge-ringlet .ensures)
+returns-2 c =
+    let entry = c .before .before .before .before .before in
+    let down = c .before .before .before .before .down in
+    let if1 = c .before .before .before .if1 in
+    let purge-ringlet = c .before .before .purge-ringlet in
+    swept-west (entry .pre) (entry .args .t) (spansIn (entry .args .c)) _ (sym (down .ensures) ∙ (if1 .taken)) (sym (c .before .down2 .ensures) ∙
+    (c .if2 .left)) (purge-ringlet .ensures)
 
 down-requires-3 : tie.Need-down-requires-3
 down-requires-3 c κs = search needs

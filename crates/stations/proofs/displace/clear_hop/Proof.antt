@@ -104,7 +104,8 @@ loop-again c =
     rw (losing-is (entry .args .p) (getD (loop .t .places) (loop .i) blank) (side .ensures) (is-other .ensures) (side2 .ensures) (side3 .ensures)
     (c .before .choose .ensures) (c .choose2 .ensures)) (turn-kept (entry .args .t1) _ _ _ _ _ blank _ (entry .pre) (loop .inv) (loop-test .taken)
     (blank-station .ensures)
-    (stays-is (entry .args .p) (getD (loop .t .places) (loop .i) blank) (side .ensures) (is-other .ensures) (side2 .ensures) (side3 .ensures) (stays .ensures) ∙ (if1 .taken)))
+    (stays-is (entry .args .p) (getD (loop .t .places) (loop .i) blank) (side .ensures) (is-other .ensures) (side2 .ensures) (side3 .ensures)
+    (stays .ensures) ∙ (if1 .taken)))
 
 mul-b-2 : tie.Need-mul-b-2 Inv-loop μ-loop
 mul-b-2 c = search needs

@@ -12,7 +12,9 @@ use Rattle.stations.proofs.insert.insert_at.Statement.{statement}
 use Rattle.stations.proofs.insert.insert_at.Tie as tie
 
 abbrev Inv-loop : tie.InvT-loop
-Inv-loop at s t₀ n i₀ t i = (at ≤ i) × ((i ≤ n) × ((length (t .places) ≡ capacity) × (take i (t .places) ++ drop (i + 1) (t .places) ≡ take n (t₀ .places) ++ drop (n + 1) (t₀ .places))))
+Inv-loop at s t₀ n i₀ t i =
+    (at ≤ i) × ((i ≤ n) × ((length (t .places) ≡ capacity)
+    × (take i (t .places) ++ drop (i + 1) (t .places) ≡ take n (t₀ .places) ++ drop (n + 1) (t₀ .places))))
 
 abbrev μ-loop : tie.MeasureT-loop
 μ-loop at s t₀ n i₀ t i = i
@@ -39,7 +41,11 @@ loop-less : tie.Need-loop-less Inv-loop μ-loop
 loop-less c = search needs
 
 loop-again : tie.Need-loop-again Inv-loop μ-loop
-loop-again c = let at = c .before .before .loop in (search needs, (search needs, (search needs, down-step (at .t .places) (at .i) _ (omega arith) (omega arith) ∙ at .inv .1 .1 .1)))
+loop-again c =
+    let at = c .before .before .loop in (
+      search needs,
+      (search needs, (search needs, down-step (at .t .places) (at .i) _ (omega arith) (omega arith) ∙ at .inv .1 .1 .1)),
+    )
 
 mul-s : tie.Need-mul-s Inv-loop μ-loop
 mul-s c = search needs
