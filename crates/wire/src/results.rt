@@ -13,7 +13,7 @@ pub const UNFIT: u8 = 4;
 
 pub const OWN_ADDRESS: u8 = 5;
 
-pub const TOO_FAR: u8 = 6;
+pub const HOP_TOO_HIGH: u8 = 6;
 
 pub const NOT_IN_TABLE: u8 = 7;
 
