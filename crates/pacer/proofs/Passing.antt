@@ -12,7 +12,7 @@ use mir.Val.{Val, WT, hasTy, vbool, vint}
 use base.Logic.{ent, emp}
 use prog.Wp.{Heap}
 use ghost.Atoms.{Atoms, sem}
-use types.Kit.{Given, ‵, _$_, _∵_, !, qed, done, fjoin}
+use types.Kit.{Given, _$_, _∵_, !, qed, done, fjoin}
 use denote.RattleType.{RattleType, owns}
 use denote.Laws.{Is}
 use denote.Plain.{uint-makes, bool-makes}

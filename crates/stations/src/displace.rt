@@ -57,7 +57,7 @@ fn is_held(t: Table, p: Report) -> bool
     false
 }
 
-// As `displace_others`, over the whole table.
+// Station by station; those that stay close up.
 fn clear_hop(mut t: Table, p: Report) -> Table
     requires { ⌜ TableKept t ⌝ }
     ensures { λ r. ⌜ r ≡ tableOf (displaced p (live t)) ⌝ }

@@ -16,7 +16,7 @@ ghost use lib.ListN.{set, getD};
 ghost use Rattle.stations.specs.Hearing.{distance, heardAgain, placed, placedNew, placedKnown};
 ghost use Rattle.stations.specs.Table.{TableKept, blank, live, tableOf, found, At, hearingOf};
 
-// "129 to 255 is result 22".
+// Distances above it are those of old reports.
 const LAST_NEWER: u8 = 128;
 
 #[repr(C)]

@@ -4,7 +4,7 @@ ghost use mathlib.Core.Path.{_≡_};
 ghost use mathlib.Core.List.{[]};
 ghost use Rattle.stations.specs.Table.{blank, tableOf};
 
-// "At most 63".
+// The most stations.
 pub(crate) const PLACES: usize = 63;
 
 #[repr(C)]
