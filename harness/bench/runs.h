@@ -1,0 +1,21 @@
+/* What both sides run: a ring of so many stations, then one record or question so many times; the sum of what was answered. */
+#ifndef RUNS_H
+#define RUNS_H
+
+#include <stdint.h>
+
+typedef uint64_t setup(uint32_t stations);
+typedef uint64_t run(uint32_t stations, uint32_t which, uint32_t calls);
+
+/* The proved controller: crates/bench says what each number asks for. */
+setup bench_setup;
+run bench_record, bench_steer, bench_attributes;
+
+/* The plain C one. */
+setup peer_setup;
+run peer_record, peer_steer, peer_attributes;
+
+/* Prints the bytes of stack that a run's calls need, with the loop around them and its node, and ends the program. */
+void show_stack(run *what, uint32_t stations, uint32_t which);
+
+#endif
