@@ -5,7 +5,6 @@ use crate::ring::capped;
 use crate::ring::force;
 use crate::ring::ring;
 use crate::runs::carry;
-use crate::runs::repeat;
 use crate::runs::show_all;
 use crate::runs::steer_all;
 use controller::Node;
@@ -15,8 +14,8 @@ ghost use lib.ListN.{length};
 ghost use Rattle.ways.specs.Choice.{number};
 ghost use Rattle.controller.specs.Node.{stateOf, steered, asked};
 ghost use Rattle.bench.specs.Records.{recordOf};
-ghost use Rattle.bench.specs.Ring.{taken, Stands, capped, ringOf};
-ghost use Rattle.bench.specs.Runs.{told, carried, weighed, station, addressee, standing};
+ghost use Rattle.bench.specs.Ring.{Stands, capped, ringOf};
+ghost use Rattle.bench.specs.Runs.{carried, weighed, station, addressee, standing};
 
 // The ring alone: how many stations are in the table.
 #[no_mangle]
@@ -39,18 +38,6 @@ pub extern "C" fn bench_record(stations: u32, which: u32, calls: u32) -> u64
     let bytes = chosen.bytes;
     let end = chosen.length;
     carry(ring(s), &bytes[..end], calls)
-}
-
-// The ring, then one record `calls` times, each with the ring's own node.
-#[no_mangle]
-pub extern "C" fn bench_record_again(stations: u32, which: u32, calls: u32) -> u64
-    ensures { λ r. ⌜ r ≡ calls * told (taken (ringOf (capped stations)) (recordOf (capped stations) which)) ⌝ }
-{
-    let s = capped(stations);
-    let chosen = record_of(s, which);
-    let bytes = chosen.bytes;
-    let end = chosen.length;
-    repeat(ring(s), &bytes[..end], calls)
 }
 
 // 02-00-00-00-01-k.

@@ -8,6 +8,5 @@ mod runs;
 
 pub use exports::bench_attributes;
 pub use exports::bench_record;
-pub use exports::bench_record_again;
 pub use exports::bench_setup;
 pub use exports::bench_steer;

@@ -7,7 +7,6 @@ ghost use Prim.Native.Nat.{_+_, _*_, _^_, _<_};
 ghost use Rattle.ways.specs.Choice.{number};
 ghost use Rattle.controller.specs.Kept.{Kept};
 ghost use Rattle.controller.specs.Node.{stateOf, steered, asked};
-ghost use Rattle.bench.specs.Ring.{taken};
 ghost use Rattle.bench.specs.Runs.{told, carried, weighed};
 
 // The result, and 256 for a report that was written.
@@ -34,21 +33,6 @@ pub(crate) fn carry(start: Node, bytes: &[u8], calls: u32) -> u64
         sum += told(a.result, a.wrote);
         let next = a.node;
         n = next;
-    }
-    sum
-}
-
-// The same record many times, each with the same node.
-pub(crate) fn repeat(n: Node, bytes: &[u8], calls: u32) -> u64
-    requires { ⌜ Kept n ⌝ }
-    ensures { λ r. ⌜ r ≡ calls * told (taken n (now (bytes .entry))) ⌝ }
-{
-    let mut left = calls;
-    let mut sum: u64 = 0;
-    while 0 < left {
-        left -= 1;
-        let a = take(n, bytes);
-        sum += told(a.result, a.wrote);
     }
     sum
 }

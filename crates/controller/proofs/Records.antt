@@ -27,7 +27,7 @@ use Rattle.controller.specs.Record.{Outcome, refusal, closed, outcomeOf,
 use Rattle.controller.specs.Node.{Core, Node, Started, Answer, choiceOf, spansIn, withSpans, stateOf, startedWith, answerOf}
 use Rattle.controller.specs.Kept.{Kept}
 use Rattle.controller.specs.Promise.{Begun, Recorded}
-use Rattle.controller.specs.Steps.{leavesTable, passing, reportIn, pacedIn, refusedWith, Advanced}
+use Rattle.controller.specs.Steps.{leavesTable, passing, reportIn, pacedIn, refusedWith, TookReading}
 use Rattle.controller.specs.declared.close.Closed.{Closed}
 use Rattle.controller.specs.Kept.{ReadingKept}
 use Rattle.controller.proofs.Handled.{judged-kept}
@@ -112,7 +112,7 @@ module _ (n : Node) (k : Kept n) (r : Reading) (block : List ℕ) where
           let s = judged-kept (choiceOf (n .core .settings)) r block spans (live (n .table)) (k .state .ticks) reads bytes (k .state .stations) in
           rw heard (kept-table (placed .stations) (s .few) (s .ascending))
 
-      pub refused : refusal (h .result) ≡ true → (old : List ℕ) → Advanced n r block old old (refusedWith n (h .result))
+      pub refused : refusal (h .result) ≡ true → (old : List ℕ) → TookReading n r block old old (refusedWith n (h .result))
       unfolding outcomeOf
       refused is-refused old =
           let refuse : refusal (placed .result) ≡ true = rw result-is at is-refused in
@@ -137,7 +137,7 @@ module _ (n : Node) (k : Kept n) (r : Reading) (block : List ℕ) where
       -- A record that is not refused, with the stations that its handler left.
       closes : refusal (placed .result) ≡ false → (u : Table) → u ≡ tableOf (swept ticks settles (placed .stations)) → (old new : List ℕ)
           → new ≡ over (reportIn z) old
-          → Advanced n r block old new (record { node = record { core = z .core; table = u }; result = placed .result; wrote = z .wrote })
+          → TookReading n r block old new (record { node = record { core = z .core; table = u }; result = placed .result; wrote = z .wrote })
       unfolding outcomeOf closed pacedIn
       closes take u eu old new e = record {
         is = rw (closed-is, eu, take, wrote-is paces);
@@ -146,20 +146,20 @@ module _ (n : Node) (k : Kept n) (r : Reading) (block : List ℕ) where
 
       pub taken : {h : Hearing} {u : Table} → h ≡ hearingOf (judged (choiceOf (d .settings)) r block (spansIn d) (live (n .table)))
           → refusal (h .result) ≡ false → u ≡ tableOf (swept t (spansIn s) (live (h .table))) → (old new : List ℕ) → new ≡ over (reportIn z) old
-          → Advanced n r block old new (record { node = record { core = z .core; table = u }; result = h .result; wrote = z .wrote })
+          → TookReading n r block old new (record { node = record { core = z .core; table = u }; result = h .result; wrote = z .wrote })
       taken {h} {u} eh is-taken eu old new e =
           rw (result-is eh)
           (closes (rw (result-is eh) at is-taken) u (eu ∙ rw (et, settled-is, heard eh, live-of (placed .stations))) old new e)
 
       -- A record that leaves the table alone.
       pub passed : passing t r (spansIn s) ≡ true → (old new : List ℕ) → new ≡ over (reportIn z) old
-          → Advanced n r block old new (record { node = record { core = z .core; table = n .table }; result = 0; wrote = z .wrote })
+          → TookReading n r block old new (record { node = record { core = z .core; table = n .table }; result = 0; wrote = z .wrote })
       passed p old new e =
           let q : passing ticks r settles ≡ true = rw (et, settled-is) at p in
           let same : placed ≡ gives 0 (live (n .table)) = passing-judged (choiceOf (n .core .settings)) r block spans (live (n .table)) ticks settles q in
           let whole : n .table ≡ tableOf (swept ticks settles (placed .stations)) =
           k .table .whole ∙ ap tableOf (sym (ap (λ (x : Placed). swept ticks settles (x .stations)) same ∙ passing-swept ticks r settles (live (n .table)) q)) in
-          subst (λ (m : ℕ). Advanced n r block old new (record { node = record { core = z .core; table = n .table }; result = m; wrote = z .wrote }))
+          subst (λ (m : ℕ). TookReading n r block old new (record { node = record { core = z .core; table = n .table }; result = m; wrote = z .wrote }))
           (ap (λ (x : Placed). x .result) same)
           (closes (ap (λ (x : Placed). refusal (x .result)) same) (n .table) whole old new e)
 
@@ -177,7 +177,7 @@ module _ (n : Node) (k : Kept n) (b old : List ℕ) where
   enough room = rw (le-ltb (length old) 7 room)
 
   pub recorded : (r : Reading) (block new : List ℕ) (a : Answer) → Bytes b → 7 ≤ length old → r ≡ readIn (n .core .settings .address) b
-      → block ≡ blockOf b → Advanced n r block old new a → Recorded n b old new a
+      → block ≡ blockOf b → TookReading n r block old new a → Recorded n b old new a
   unfolding outcome
   recorded r block new a bytes room er eb v =
       let same : outcome (stateOf n) b (length old) ≡ outcomeOf r block (stateOf n) =

@@ -21,7 +21,7 @@ ghost use Rattle.controller.specs.Node.{spansIn};
 ghost use Rattle.controller.specs.Promise.{Recorded};
 ghost use Rattle.controller.specs.Reading.{blockOf};
 ghost use Rattle.controller.specs.Record.{refusal};
-ghost use Rattle.controller.specs.Steps.{passing, reportIn, refusedWith, Advanced};
+ghost use Rattle.controller.specs.Steps.{passing, reportIn, refusedWith, TookReading};
 ghost use Rattle.wire.specs.Report.{over};
 
 #[repr(C)]
@@ -98,7 +98,7 @@ fn send(out: &mut [u8], z: Closed)
 // A record that was read, with the block that it may carry; its report goes to the front of the output.
 fn take_reading(mut n: Node, r: Reading, block: &[u8], out: &mut [u8]) -> Answer
     requires { ⌜ Kept n × ReadingKept (n .core .settings .address) r ⌝ }
-    ensures { λ a. ⌜ Advanced n r (now (block .entry)) (now (out .entry)) (now (out .exit)) a ⌝ }
+    ensures { λ a. ⌜ TookReading n r (now (block .entry)) (now (out .entry)) (now (out .exit)) a ⌝ }
 {
     let c = n.core;
     let t = c.settings.ticks();

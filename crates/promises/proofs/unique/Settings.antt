@@ -8,9 +8,6 @@ use Rattle.promises.specs.Unique.{Fixes}
 pub settings-default-for-unique : Fixes Settings.default_for.ended Settings.default_for.Reads.ensures Settings.default_for.Reads.Post
 settings-default-for-unique = (λ w κs a x e. refl, λ κs a x y e f p q. p ∙ sym q)
 
-pub settings-in-range-unique : Fixes Settings.in_range.ended Settings.in_range.Reads.ensures Settings.in_range.Reads.Post
-settings-in-range-unique = (λ w κs a x e. refl, λ κs a x y e f p q. p ∙ sym q)
-
 pub settings-ticks-unique : Fixes Settings.ticks.ended Settings.ticks.Reads.ensures Settings.ticks.Reads.Post
 settings-ticks-unique = (λ w κs a x e. refl, λ κs a x y e f p q. p ∙ sym q)
 

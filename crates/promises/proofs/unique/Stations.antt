@@ -8,9 +8,6 @@ use Rattle.promises.specs.Unique.{Fixes}
 pub table-empty-unique : Fixes Table.empty.ended Table.empty.Reads.ensures Table.empty.Reads.Post
 table-empty-unique = (λ w κs a x e. refl, λ κs a x y e f p q. p ∙ sym q)
 
-pub station-attributes-unique : Fixes Station.attributes.ended Station.attributes.Reads.ensures Station.attributes.Reads.Post
-station-attributes-unique = (λ w κs a x e. refl, λ κs a x y e f p q. p ∙ sym q)
-
 pub side-unique : Fixes stations.side.ended stations.side.Reads.ensures stations.side.Reads.Post
 side-unique = (λ w κs a x e. refl, λ κs a x y e f p q. p ∙ sym q)
 
