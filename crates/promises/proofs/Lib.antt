@@ -4,6 +4,7 @@ pub mod demand2
 pub mod roundtrip
 pub mod demand3
 pub mod steering
+pub mod spans
 pub mod wrong
 pub mod contracts
 pub mod unique

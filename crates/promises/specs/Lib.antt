@@ -2,6 +2,7 @@ pub mod History
 pub mod Refusals
 pub mod Levels
 pub mod Steering
+pub mod Spans
 pub mod Written
 pub mod Examples
 pub mod Possible

@@ -1,0 +1,4 @@
+-- What happens to a span over whole histories, whatever stands between. In the order of reading.
+pub mod Readings
+pub mod OneRecord
+pub mod HoldOff

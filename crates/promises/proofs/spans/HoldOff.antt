@@ -1,0 +1,131 @@
+-- P6 for every hold-off: a worse status comes into force with the tick that ends the hold-off, and not before, whatever records stand between, save a link record of that span. Assumes nothing.
+-- s is any state, g the calls before the link record c of span n, h the calls after it; a tick that was refused does not count.
+use Prim.Native.Nat.{ℕ, suc, _<_, _≤_}
+use mathlib.Core.Path.{_≡_, refl, sym, _∙_, ap, subst}
+use mathlib.Core.Bool.{Bool, true, false, cond, true≢false}
+use mathlib.Core.List.{List, [], _∷_, _++_}
+use native.Mathlib.Omega.{arith}
+use lib.Dec.{eqb}
+use borrow.Author.Tests.{eqb-true, eqb-false, eq-eqb}
+use Rattle.settings.specs.declared.choice.Ticks.{Ticks}
+use Rattle.spans.specs.declared.span.Span.{Span}
+use Rattle.spans.specs.Codes.{good, degraded, failed, SF, SD, IDLE, higher}
+use Rattle.spans.specs.Records.{linked, alive, asked}
+use Rattle.spans.specs.Requests.{automatic, waited, request}
+use Rattle.spans.specs.HoldOff.{HeldOff, LinkAlone, LinkDecides}
+use Rattle.spans.proofs.HoldOff.{held-linked, held-ticked, held-alive, held-asked, held-marked, held-waited, still-held, held-over, idle-while-held, sf-when-over, sd-when-over}
+use Rattle.controller.specs.declared.reading.Reading.{Reading}
+use Rattle.controller.specs.declared.reading.Reading.the-variants.{Refused, Tick, Link, Keepalive, Operator, Heard, Block}
+use Rattle.controller.specs.State.{Choice, Spans, State, spanOf}
+use Rattle.controller.specs.Handling.{acted}
+use Rattle.controller.specs.Closing.{isTick}
+use Rattle.promises.specs.History.{Call, after}
+use Rattle.promises.specs.Spans.{readAs, isLink, ticksTaken, Unlinked, spanAfter, requestOn, automaticOn}
+use Rattle.promises.proofs.demand3.Following.{choice-after}
+use Rattle.promises.proofs.spans.Readings.{Sided, sided}
+use Rattle.promises.proofs.spans.OneRecord.{span-call, touched, found-back, cabled-touched, ticked-both}
+
+-- Of two spans on one side there is one number.
+same-span : (m n : ℕ) → m ≤ 1 → n ≤ 1 → eqb m 0 ≡ eqb n 0 → m ≡ n
+same-span m n low high = go (eqb m 0) refl (eqb n 0) refl
+  where
+    go : (a : Bool) → eqb m 0 ≡ a → (b : Bool) → eqb n 0 ≡ b → a ≡ b → m ≡ n
+    go true p true q e = omega (arith, eqb-true m 0 p, eqb-true n 0 q)
+    go true p false q e = absurd (true≢false e)
+    go false p true q e = absurd (true≢false (sym e))
+    go false p false q e = omega (arith, eqb-false m 0 p, eqb-false n 0 q)
+
+-- A record that is no link record of span n leaves its hold-off running: a tick brings it nearer its end.
+module _ (n : ℕ) (side : n ≤ 1) (t : Ticks) (f x k : ℕ) (y : Spans) (held : HeldOff t f x k (spanOf n y)) where
+  acted-held : (r : Reading) → Sided r → isLink n r ≡ false → HeldOff t f x (cond (isTick r) (suc k) k) (spanOf n (acted t r y))
+  unfolding acted
+  acted-held (Refused i) low u = held
+  acted-held Tick low u = subst (HeldOff t f x (suc k)) (sym (ticked-both t n y)) (held-ticked t f x k (spanOf n y) held)
+  acted-held (Link m status) low u =
+      touched (HeldOff t f x k) (linked t status) m n y
+      (λ e. absurd (true≢false (sym (eq-eqb m n (same-span m n low side e)) ∙ u))) held
+  acted-held (Keepalive m) low u = touched (HeldOff t f x k) alive m n y (λ e. held-alive t f x k (spanOf n y) held) held
+  acted-held (Operator m request) low u =
+      touched (HeldOff t f x k) (asked request) m n y (λ e. held-asked t f x k (spanOf n y) held request) held
+  acted-held (Heard m p) low u = cabled-touched (HeldOff t f x k) m n p y (held-marked t f x k (spanOf n y) held) held
+  acted-held (Block m a) low u = held
+
+module _ (s : State) (n : ℕ) (side : n ≤ 1) where
+  abbrev t : Ticks
+  t = s .choice .ticks
+
+  abbrev own : ℕ
+  own = s .choice .address
+
+  -- The link record starts it ..
+  starts : (g : List Call) (c : Call) (x : ℕ) → readAs own c ≡ Link n x → (x ≡ spanAfter n s g .stored → ⊥) → spanAfter n s g .force < x
+      → HeldOff t (spanAfter n s g .force) x 0 (spanAfter n s (c ∷ g))
+  unfolding acted
+  starts g c x is other worse =
+      let u : Span = spanAfter n s g in
+      subst (HeldOff t (u .force) x 0)
+      (sym (span-call s g c n ∙ ap (λ (r : Reading). waited t (automatic t u) (spanOf n (acted t r (after s g .spans)))) is
+      ∙ ap (waited t (automatic t u)) (found-back n (linked t x u) (after s g .spans))))
+      (held-waited t (u .force) x 0 (linked t x u) (held-linked t x u other worse) (automatic t u))
+
+  -- .. and the calls after it count its ticks.
+  goes-on : (f x : ℕ) (g : List Call) → HeldOff t f x 0 (spanAfter n s g) → (h : List Call) → Unlinked own n h
+      → HeldOff t f x (ticksTaken own h) (spanAfter n s (h ++ g))
+  unfolding Unlinked ticksTaken
+  goes-on f x g held [] u = held
+  goes-on f x g held (d ∷ h) u =
+      let y : Spans = after s (h ++ g) .spans in
+      let k : ℕ = ticksTaken own (d ∷ h) in
+      subst (HeldOff t f x k) (sym (span-call s (h ++ g) d n))
+      (held-waited t f x k (spanOf n (acted t (readAs own d) y))
+      (acted-held n side t f x (ticksTaken own h) y (goes-on f x g held h (u .1)) (readAs own d) (sided own (d .bytes) (d .room)) (u .0))
+      (automatic t (spanOf n y)))
+
+  module _ (g : List Call) (c : Call) (x : ℕ) (is : readAs own c ≡ Link n x) where
+    -- A status that differs from the stored one and is worse than the one in force. A setting of 0 is no exception: no tick is below it.
+    pub held-off : (x ≡ spanAfter n s g .stored → ⊥) → spanAfter n s g .force < x → (h : List Call) → Unlinked own n h
+        → HeldOff t (spanAfter n s g .force) x (ticksTaken own h) (spanAfter n s (h ++ (c ∷ g)))
+    held-off other worse = goes-on (spanAfter n s g .force) x (c ∷ g) (starts g c x is other worse)
+
+    -- "with a setting of 0 it comes into force at once".
+    pub at-once : t .holdoff ≡ 0 → (x ≡ spanAfter n s g .stored → ⊥) → spanAfter n s g .force < x → spanAfter n s (c ∷ g) .force ≡ x
+    at-once zero other worse = held-over t (spanAfter n s (c ∷ g)) (starts g c x is other worse) (omega arith)
+
+    -- A link that was good: degraded, or failed.
+    module _ (stored : spanAfter n s g .stored ≡ good) (force : spanAfter n s g .force ≡ good) (worse : good < x) (h : List Call) (u : Unlinked own n h) where
+      abbrev now : State
+      now = after s (h ++ (c ∷ g))
+
+      from-good : HeldOff t good x (ticksTaken own h) (spanAfter n s (h ++ (c ∷ g)))
+      from-good =
+          subst (λ (f : ℕ). HeldOff t f x (ticksTaken own h) (spanAfter n s (h ++ (c ∷ g)))) force
+          (held-off (λ e. omega arith) (omega arith) h u)
+
+      -- the settings stay, so that requests may be asked with those of s
+      with-ticks : (P : ℕ → Type 0) (ask : Ticks → Span → ℕ) → P (ask t (spanOf n (now .spans))) → P (ask (now .choice .ticks) (spanOf n (now .spans)))
+      with-ticks P ask p = subst (λ (k : Choice). P (ask (k .ticks) (spanOf n (now .spans)))) (sym (choice-after s (h ++ (c ∷ g)))) p
+
+      pub good-while-held : ticksTaken own h < t .holdoff → spanOf n (now .spans) .force ≡ good
+      good-while-held = still-held t (spanOf n (now .spans)) from-good
+
+      pub worse-when-over : t .holdoff ≤ ticksTaken own h → spanOf n (now .spans) .force ≡ x
+      worse-when-over = held-over t (spanOf n (now .spans)) from-good
+
+      -- P6's own words: "IDLE after 29 ticks" ..
+      pub idle-meanwhile : ticksTaken own h < t .holdoff → LinkDecides t (spanOf n (now .spans)) → requestOn n now ≡ IDLE
+      idle-meanwhile more d = with-ticks (λ (q : ℕ). q ≡ IDLE) request (idle-while-held t (spanOf n (now .spans)) from-good more d)
+
+      -- .. "SF after 30": the automatic request, and the span request unless the operator's is above it.
+      pub failed-then : x ≡ failed → t .holdoff ≤ ticksTaken own h
+          → (automaticOn n now ≡ SF) × (requestOn n now ≡ higher (spanOf n (now .spans) .operator) SF)
+      failed-then is over =
+          let held : HeldOff t good failed (ticksTaken own h) (spanOf n (now .spans)) = rw (← is) from-good in
+          let (sf, top) = sf-when-over t (spanOf n (now .spans)) held over in (
+            with-ticks (λ (q : ℕ). q ≡ SF) automatic sf,
+            with-ticks (λ (q : ℕ). q ≡ higher (spanOf n (now .spans) .operator) SF) request top,
+          )
+
+      pub degraded-then : x ≡ degraded → t .holdoff ≤ ticksTaken own h → LinkAlone t (spanOf n (now .spans)) → automaticOn n now ≡ SD
+      degraded-then is over a =
+          let held : HeldOff t good degraded (ticksTaken own h) (spanOf n (now .spans)) = rw (← is) from-good in
+          with-ticks (λ (q : ℕ). q ≡ SD) automatic (sd-when-over t (spanOf n (now .spans)) held over a)

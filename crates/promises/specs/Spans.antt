@@ -1,0 +1,85 @@
+-- What happens to a span over a history. Span n is west for 0 and east for 1; own is the node's address, on which the reading of a record depends.
+use Prim.Native.Nat.{ℕ, suc}
+use mathlib.Core.Path.{_≡_}
+use mathlib.Core.Bool.{Bool, false, cond}
+use mathlib.Core.List.{List, [], _∷_}
+use lib.Dec.{eqb}
+use Rattle.spans.specs.declared.span.Span.{Span}
+use Rattle.spans.specs.Codes.{none}
+use Rattle.spans.specs.Records.{asked}
+use Rattle.spans.specs.Requests.{automatic, request}
+use Rattle.controller.specs.declared.reading.Reading.{Reading}
+use Rattle.controller.specs.declared.reading.Reading.the-variants.{Refused, Tick, Link, Keepalive, Operator, Heard, Block}
+use Rattle.controller.specs.Reading.{reading}
+use Rattle.controller.specs.State.{Spans, State, spanOf, withSpan}
+use Rattle.controller.specs.Closing.{isTick}
+use Rattle.promises.specs.History.{Call, after}
+
+-- What the record of a call says, or its refusal.
+abbrev pub readAs : ℕ → Call → Reading
+readAs own c = reading own (c .bytes) (c .room)
+
+-- A link record of span n.
+abbrev pub isLink : ℕ → Reading → Bool
+isLink n (Refused k) = false
+isLink n Tick = false
+isLink n (Link m status) = eqb m n
+isLink n (Keepalive m) = false
+isLink n (Operator m request) = false
+isLink n (Heard m p) = false
+isLink n (Block m a) = false
+
+-- An operator record of span n.
+abbrev pub isOperator : ℕ → Reading → Bool
+isOperator n (Refused k) = false
+isOperator n Tick = false
+isOperator n (Link m status) = false
+isOperator n (Keepalive m) = false
+isOperator n (Operator m request) = eqb m n
+isOperator n (Heard m p) = false
+isOperator n (Block m a) = false
+
+-- The ticks of a history that were taken. A record that was refused is none, whatever its kind.
+unfoldable pub ticksTaken : ℕ → List Call → ℕ
+unfolding reading
+ticksTaken own [] = 0
+ticksTaken own (c ∷ h) = cond (isTick (readAs own c)) (suc (ticksTaken own h)) (ticksTaken own h)
+
+-- No link record of span n was taken ..
+unfoldable pub Unlinked : ℕ → ℕ → List Call → Type 0
+unfolding reading
+Unlinked own n [] = Unit {0}
+Unlinked own n (c ∷ h) = (isLink n (readAs own c) ≡ false) × Unlinked own n h
+
+-- .. and no operator record of it.
+unfoldable pub Unasked : ℕ → ℕ → List Call → Type 0
+unfolding reading
+Unasked own n [] = Unit {0}
+Unasked own n (c ∷ h) = (isOperator n (readAs own c) ≡ false) × Unasked own n h
+
+-- A history without its operator records of span n.
+unfoldable pub unasked : ℕ → ℕ → List Call → List Call
+unfolding reading
+unasked own n [] = []
+unasked own n (c ∷ h) = cond (isOperator n (readAs own c)) (unasked own n h) (c ∷ unasked own n h)
+
+-- The span n after a history.
+abbrev pub spanAfter : ℕ → State → List Call → Span
+spanAfter n s h = spanOf n (after s h .spans)
+
+-- The span request and the automatic request of span n.
+abbrev pub requestOn : ℕ → State → ℕ
+requestOn n s = request (s .choice .ticks) (spanOf n (s .spans))
+
+abbrev pub automaticOn : ℕ → State → ℕ
+automaticOn n s = automatic (s .choice .ticks) (spanOf n (s .spans))
+
+-- The spans with the operator request of span n replaced.
+abbrev pub askedOn : ℕ → ℕ → Spans → Spans
+askedOn n request x = withSpan n (asked request (spanOf n x)) x
+
+-- Two states that differ at most in the operator request of span n and in what was reported: all that goes on beneath the request is the same.
+pub record SameBeneath (n : ℕ) (s u : State) : Type 0 where
+  pub choice : s .choice ≡ u .choice
+  pub spans : askedOn n none (s .spans) ≡ askedOn n none (u .spans)
+  pub stations : s .stations ≡ u .stations
