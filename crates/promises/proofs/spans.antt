@@ -2,3 +2,6 @@
 pub mod Readings
 pub mod OneRecord
 pub mod HoldOff
+pub mod Purging
+pub mod Unseen
+pub mod Beneath

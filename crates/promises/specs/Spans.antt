@@ -12,7 +12,7 @@ use Rattle.controller.specs.declared.reading.Reading.{Reading}
 use Rattle.controller.specs.declared.reading.Reading.the-variants.{Refused, Tick, Link, Keepalive, Operator, Heard, Block}
 use Rattle.controller.specs.Reading.{reading}
 use Rattle.controller.specs.State.{Spans, State, spanOf, withSpan}
-use Rattle.controller.specs.Closing.{isTick}
+use Rattle.controller.specs.Closing.{isTick, swept}
 use Rattle.promises.specs.History.{Call, after}
 
 -- What the record of a call says, or its refusal.
@@ -77,6 +77,10 @@ automaticOn n s = automatic (s .choice .ticks) (spanOf n (s .spans))
 -- The spans with the operator request of span n replaced.
 abbrev pub askedOn : ℕ → ℕ → Spans → Spans
 askedOn n request x = withSpan n (asked request (spanOf n x)) x
+
+-- The purge of the closing steps finds nothing in a state: so it is at the start, and after every call.
+abbrev pub Swept : State → Type 0
+Swept s = swept (s .choice .ticks) (s .spans) (s .stations) ≡ s .stations
 
 -- Two states that differ at most in the operator request of span n and in what was reported: all that goes on beneath the request is the same.
 pub record SameBeneath (n : ℕ) (s u : State) : Type 0 where

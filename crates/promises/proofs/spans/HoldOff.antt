@@ -6,7 +6,7 @@ use mathlib.Core.Bool.{Bool, true, false, cond, true≢false}
 use mathlib.Core.List.{List, [], _∷_, _++_}
 use native.Mathlib.Omega.{arith}
 use lib.Dec.{eqb}
-use borrow.Author.Tests.{eqb-true, eqb-false, eq-eqb}
+use borrow.Author.Tests.{eq-eqb}
 use Rattle.settings.specs.declared.choice.Ticks.{Ticks}
 use Rattle.spans.specs.declared.span.Span.{Span}
 use Rattle.spans.specs.Codes.{good, degraded, failed, SF, SD, IDLE, higher}
@@ -22,18 +22,8 @@ use Rattle.controller.specs.Closing.{isTick}
 use Rattle.promises.specs.History.{Call, after}
 use Rattle.promises.specs.Spans.{readAs, isLink, ticksTaken, Unlinked, spanAfter, requestOn, automaticOn}
 use Rattle.promises.proofs.demand3.Following.{choice-after}
-use Rattle.promises.proofs.spans.Readings.{Sided, sided}
+use Rattle.promises.proofs.spans.Readings.{Sided, sided, same-span}
 use Rattle.promises.proofs.spans.OneRecord.{span-call, touched, found-back, cabled-touched, ticked-both}
-
--- Of two spans on one side there is one number.
-same-span : (m n : ℕ) → m ≤ 1 → n ≤ 1 → eqb m 0 ≡ eqb n 0 → m ≡ n
-same-span m n low high = go (eqb m 0) refl (eqb n 0) refl
-  where
-    go : (a : Bool) → eqb m 0 ≡ a → (b : Bool) → eqb n 0 ≡ b → a ≡ b → m ≡ n
-    go true p true q e = omega (arith, eqb-true m 0 p, eqb-true n 0 q)
-    go true p false q e = absurd (true≢false e)
-    go false p true q e = absurd (true≢false (sym e))
-    go false p false q e = omega (arith, eqb-false m 0 p, eqb-false n 0 q)
 
 -- A record that is no link record of span n leaves its hold-off running: a tick brings it nearer its end.
 module _ (n : ℕ) (side : n ≤ 1) (t : Ticks) (f x k : ℕ) (y : Spans) (held : HeldOff t f x k (spanOf n y)) where

@@ -29,7 +29,7 @@ use Rattle.promises.specs.History.{Call, after}
 use Rattle.promises.specs.Spans.{readAs, spanAfter}
 use Rattle.promises.proofs.demand3.Following.{choice-after}
 
-settled-same : (t : Ticks) (x : Spans) → settled t x x ≡ x
+pub settled-same : (t : Ticks) (x : Spans) → settled t x x ≡ x
 unfolding settled
 settled-same t x = λ i. record {
   west = waited-same t (automatic t (x .west)) (x .west) refl i;

@@ -1,12 +1,12 @@
 -- A record that was read names span 0 or 1, and a reading refuses by 1 to 6. Of any bytes. Assumes nothing.
 use Prim.Native.Nat.{ℕ, _-_, _≤_}
-use mathlib.Core.Path.{_≡_}
-use mathlib.Core.Bool.{Bool, true, not, _&&_, and-eq-true-iff}
+use mathlib.Core.Path.{_≡_, refl, sym}
+use mathlib.Core.Bool.{Bool, true, false, not, _&&_, and-eq-true-iff, true≢false}
 use mathlib.Core.List.{List}
 use native.Mathlib.Omega.{arith}
 use lib.ListN.{length}
 use lib.Dec.{eqb, leb, ltb}
-use borrow.Author.Tests.{leb-true}
+use borrow.Author.Tests.{eqb-true, eqb-false, leb-true}
 use Rattle.wire.specs.Fields.{byteAt, addressAt, oddFirst}
 use Rattle.wire.specs.Head.{kindOf, bodyOf, broken}
 use Rattle.spans.specs.Codes.{listed}
@@ -97,3 +97,13 @@ unfolding reading readIn
 sided own b room =
     chosen Sided (ltb room 7) (λ h. omega arith)
     (λ h. chosen Sided (broken b) (λ h. omega arith) (λ h. kind-sided own (bodyOf b) (kindOf b)))
+
+-- Of two spans on one side there is one number.
+pub same-span : (m n : ℕ) → m ≤ 1 → n ≤ 1 → eqb m 0 ≡ eqb n 0 → m ≡ n
+same-span m n low high = go (eqb m 0) refl (eqb n 0) refl
+  where
+    go : (a : Bool) → eqb m 0 ≡ a → (b : Bool) → eqb n 0 ≡ b → a ≡ b → m ≡ n
+    go true p true q e = omega (arith, eqb-true m 0 p, eqb-true n 0 q)
+    go true p false q e = absurd (true≢false e)
+    go false p true q e = absurd (true≢false (sym e))
+    go false p false q e = omega (arith, eqb-false m 0 p, eqb-false n 0 q)
