@@ -5,3 +5,6 @@ pub mod HoldOff
 pub mod Purging
 pub mod Unseen
 pub mod Beneath
+pub mod Running
+pub mod Rising
+pub mod Marks

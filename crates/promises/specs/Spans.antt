@@ -2,7 +2,7 @@
 use Prim.Native.Nat.{ℕ, suc}
 use mathlib.Core.Path.{_≡_}
 use mathlib.Core.Bool.{Bool, false, cond}
-use mathlib.Core.List.{List, [], _∷_}
+use mathlib.Core.List.{List, [], _∷_, _++_}
 use lib.Dec.{eqb}
 use Rattle.spans.specs.declared.span.Span.{Span}
 use Rattle.spans.specs.Codes.{none}
@@ -73,6 +73,10 @@ requestOn n s = request (s .choice .ticks) (spanOf n (s .spans))
 
 abbrev pub automaticOn : ℕ → State → ℕ
 automaticOn n s = automatic (s .choice .ticks) (spanOf n (s .spans))
+
+-- Span n has no automatic request after the calls h that follow g.
+abbrev pub Unrequested : ℕ → State → List Call → List Call → Type 0
+Unrequested n s g h = automaticOn n (after s (h ++ g)) ≡ none
 
 -- The spans with the operator request of span n replaced.
 abbrev pub askedOn : ℕ → ℕ → Spans → Spans

@@ -1,8 +1,8 @@
 -- P6 for every hold-off: a worse status comes into force with the tick that ends the hold-off, and not before, whatever records stand between, save a link record of that span. Assumes nothing.
 -- s is any state, g the calls before the link record c of span n, h the calls after it; a tick that was refused does not count.
 use Prim.Native.Nat.{ℕ, suc, _<_, _≤_}
-use mathlib.Core.Path.{_≡_, refl, sym, _∙_, ap, subst}
-use mathlib.Core.Bool.{Bool, true, false, cond, true≢false}
+use mathlib.Core.Path.{_≡_, sym, _∙_, ap, subst}
+use mathlib.Core.Bool.{false, cond, true≢false}
 use mathlib.Core.List.{List, [], _∷_, _++_}
 use native.Mathlib.Omega.{arith}
 use lib.Dec.{eqb}
