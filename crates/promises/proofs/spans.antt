@@ -8,3 +8,4 @@ pub mod Beneath
 pub mod Running
 pub mod Rising
 pub mod Marks
+pub mod ProgramNodes

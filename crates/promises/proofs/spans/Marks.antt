@@ -1,7 +1,7 @@
 -- 20 to 23: the handler changes the cable mark of the span that heard the report, that only at hop 1, and nothing else; what follows are the closing steps. For a block 21
 -- changes nothing at all. Assumes nothing.
 use Prim.Native.Nat.{ℕ, _≤_}
-use mathlib.Core.Path.{_≡_, refl, sym, _∙_, ap, subst}
+use mathlib.Core.Path.{_≡_, refl, sym, _∙_, ap}
 use mathlib.Core.Bool.{Bool, true, false, not, cond}
 use mathlib.Core.List.{List, []}
 use mathlib.Core.Option.{Option, none, some}
@@ -22,7 +22,7 @@ use Rattle.stations.proofs.Lists.{chosen}
 use Rattle.controller.specs.declared.reading.Reading.{Reading}
 use Rattle.controller.specs.declared.reading.Reading.the-variants.{Refused, Tick, Link, Keepalive, Operator, Heard, Block}
 use Rattle.controller.specs.Reading.{blockOf, reading}
-use Rattle.controller.specs.State.{Spans, State, spanOf, withSpan}
+use Rattle.controller.specs.State.{Spans, State, spanOf}
 use Rattle.controller.specs.Handling.{cabled, acted, gives, hearing, taking, learning, judged}
 use Rattle.controller.specs.Closing.{isTick}
 use Rattle.controller.specs.Record.{Outcome, refuses, unlessRefused, outcomeOf, outcome}

@@ -1,6 +1,6 @@
 -- A tick that is taken never lowers an automatic request, nor takes one away, after any history from any start. Assumes nothing.
 use Prim.Native.Nat.{ℕ, _≤_}
-use mathlib.Core.Path.{_≡_, sym, _∙_, ap, subst}
+use mathlib.Core.Path.{_≡_, _∙_, ap, subst}
 use mathlib.Core.Bool.{Bool, true, false, cond}
 use mathlib.Core.List.{List, _∷_}
 use native.Mathlib.Omega.{arith}
@@ -25,7 +25,7 @@ use Rattle.promises.proofs.demand2.AfterKept.{after-kept}
 use Rattle.promises.proofs.demand3.Following.{choice-after}
 use Rattle.promises.proofs.spans.OneRecord.{span-call, ticked-both}
 
-span-fair : (n : ℕ) (s : State) → StateKept s → SpanFair (s .choice .ticks) (spanOf n (s .spans))
+pub span-fair : (n : ℕ) (s : State) → StateKept s → SpanFair (s .choice .ticks) (spanOf n (s .spans))
 span-fair n s k = go (eqb n 0)
   where
     go : (b : Bool) → SpanFair (s .choice .ticks) (cond b (s .spans .west) (s .spans .east))
