@@ -9,3 +9,4 @@ pub mod Running
 pub mod Rising
 pub mod Marks
 pub mod ProgramNodes
+pub mod MeetsSpans

@@ -1,7 +1,7 @@
 -- What happens to a span over a history. Span n is west for 0 and east for 1; own is the node's address, on which the reading of a record depends.
 use Prim.Native.Nat.{ℕ, suc}
 use mathlib.Core.Path.{_≡_}
-use mathlib.Core.Bool.{Bool, false, cond}
+use mathlib.Core.Bool.{Bool, false, cond, _||_}
 use mathlib.Core.List.{List, [], _∷_, _++_}
 use lib.Dec.{eqb}
 use Rattle.spans.specs.declared.span.Span.{Span}
@@ -45,17 +45,17 @@ unfolding reading
 ticksTaken own [] = 0
 ticksTaken own (c ∷ h) = cond (isTick (readAs own c)) (suc (ticksTaken own h)) (ticksTaken own h)
 
--- No link record of span n was taken ..
-unfoldable pub Unlinked : ℕ → ℕ → List Call → Type 0
+-- A link record of span n was taken ..
+unfoldable pub linkTaken : ℕ → ℕ → List Call → Bool
 unfolding reading
-Unlinked own n [] = Unit {0}
-Unlinked own n (c ∷ h) = (isLink n (readAs own c) ≡ false) × Unlinked own n h
+linkTaken own n [] = false
+linkTaken own n (c ∷ h) = isLink n (readAs own c) || linkTaken own n h
 
--- .. and no operator record of it.
-unfoldable pub Unasked : ℕ → ℕ → List Call → Type 0
+-- .. or an operator record of it.
+unfoldable pub operatorTaken : ℕ → ℕ → List Call → Bool
 unfolding reading
-Unasked own n [] = Unit {0}
-Unasked own n (c ∷ h) = (isOperator n (readAs own c) ≡ false) × Unasked own n h
+operatorTaken own n [] = false
+operatorTaken own n (c ∷ h) = isOperator n (readAs own c) || operatorTaken own n h
 
 -- A history without its operator records of span n.
 unfoldable pub unasked : ℕ → ℕ → List Call → List Call

@@ -12,6 +12,7 @@ use Rattle.spans.specs.Codes.{none}
 use Rattle.spans.specs.Records.{linked, ticked, alive, asked}
 use Rattle.spans.specs.Requests.{automatic}
 use Rattle.spans.proofs.Beneath.{waited-asked, linked-asked}
+use Rattle.stations.proofs.Lists.{neither}
 use Rattle.controller.specs.declared.reading.Reading.{Reading}
 use Rattle.controller.specs.declared.reading.Reading.the-variants.{Refused, Tick, Link, Keepalive, Operator, Heard, Block}
 use Rattle.controller.specs.Reading.{blockOf}
@@ -20,7 +21,7 @@ use Rattle.controller.specs.Handling.{acted}
 use Rattle.controller.specs.Closing.{settled}
 use Rattle.controller.specs.Record.{outcomeOf, outcome}
 use Rattle.promises.specs.History.{Call, after}
-use Rattle.promises.specs.Spans.{readAs, isOperator, Unasked, unasked, spanAfter, askedOn, Swept, SameBeneath}
+use Rattle.promises.specs.Spans.{readAs, isOperator, operatorTaken, unasked, spanAfter, askedOn, Swept, SameBeneath}
 use Rattle.promises.proofs.demand3.Following.{choice-after}
 use Rattle.promises.proofs.spans.Readings.{Sided, sided, same-span}
 use Rattle.promises.proofs.spans.OneRecord.{spans-call, span-call, touched, cabled-touched, ticked-both}
@@ -55,18 +56,19 @@ module _ (n : ℕ) (side : n ≤ 1) (t : Ticks) (y : Spans) where
   acted-operator (Heard m p) low u = cabled-touched Still m n p y (λ mark. refl) refl
   acted-operator (Block m a) low u = refl
 
-operator-stays : (n : ℕ) → n ≤ 1 → (s : State) (g h : List Call) → Unasked (s .choice .address) n h
+operator-stays : (n : ℕ) → n ≤ 1 → (s : State) (g h : List Call) → operatorTaken (s .choice .address) n h ≡ false
     → spanAfter n s (h ++ g) .operator ≡ spanAfter n s g .operator
-unfolding Unasked
+unfolding operatorTaken
 operator-stays n side s g [] u = refl
 operator-stays n side s g (c ∷ h) u =
     let t : Ticks = s .choice .ticks in
     let r : Reading = readAs (s .choice .address) c in
     let y : Spans = after s (h ++ g) .spans in
     let v : Span = spanOf n (acted t r y) in
+    let (first, rest) = neither (isOperator n r) (operatorTaken (s .choice .address) n h) u in
     ap (λ (z : Span). z .operator) (span-call s (h ++ g) c n ∙ waited-asked t (v .operator) (automatic t (spanOf n y)) v)
-    ∙ acted-operator n side t y r (sided (s .choice .address) (c .bytes) (c .room)) (u .0)
-    ∙ operator-stays n side s g h (u .1)
+    ∙ acted-operator n side t y r (sided (s .choice .address) (c .bytes) (c .room)) first
+    ∙ operator-stays n side s g h rest
 
 -- After the record that takes the request away there is none.
 gone : (n : ℕ) (s : State) (h : List Call) (d : Call) → readAs (s .choice .address) d ≡ Operator n none
@@ -174,7 +176,7 @@ module _ (n : ℕ) where
       spans-without = gone n s (h ++ (c ∷ g)) d goes ∙ comes-and-goes .spans
 
       -- .. so they are wholly the same, if span n had none and is asked for none between.
-      pub as-if-not-come : n ≤ 1 → spanAfter n s g .operator ≡ none → Unasked own n h
+      pub as-if-not-come : n ≤ 1 → spanAfter n s g .operator ≡ none → operatorTaken own n h ≡ false
           → (after s (d ∷ (h ++ (c ∷ g))) .spans ≡ after s (h ++ g) .spans) × (after s (d ∷ (h ++ (c ∷ g))) .stations ≡ after s (h ++ g) .stations)
       as-if-not-come side free u =
           (spans-without ∙ bare-none (eqb n 0) (after s (h ++ g) .spans) (operator-stays n side s g h u ∙ free), comes-and-goes .stations)

@@ -13,13 +13,14 @@ use Rattle.spans.specs.Records.{linked, alive, asked}
 use Rattle.spans.specs.Requests.{automatic, waited, request}
 use Rattle.spans.specs.HoldOff.{HeldOff, LinkAlone, LinkDecides}
 use Rattle.spans.proofs.HoldOff.{held-linked, held-ticked, held-alive, held-asked, held-marked, held-waited, still-held, held-over, idle-while-held, sf-when-over, sd-when-over}
+use Rattle.stations.proofs.Lists.{neither}
 use Rattle.controller.specs.declared.reading.Reading.{Reading}
 use Rattle.controller.specs.declared.reading.Reading.the-variants.{Refused, Tick, Link, Keepalive, Operator, Heard, Block}
 use Rattle.controller.specs.State.{Choice, Spans, State, spanOf}
 use Rattle.controller.specs.Handling.{acted}
 use Rattle.controller.specs.Closing.{isTick}
 use Rattle.promises.specs.History.{Call, after}
-use Rattle.promises.specs.Spans.{readAs, isLink, ticksTaken, Unlinked, spanAfter, requestOn, automaticOn}
+use Rattle.promises.specs.Spans.{readAs, isLink, ticksTaken, linkTaken, spanAfter, requestOn, automaticOn}
 use Rattle.promises.proofs.demand3.Following.{choice-after}
 use Rattle.promises.proofs.spans.Readings.{Sided, sided, same-span}
 use Rattle.promises.proofs.spans.OneRecord.{span-call, touched, found-back, cabled-touched, ticked-both}
@@ -58,21 +59,22 @@ module _ (s : State) (n : ℕ) (side : n ≤ 1) where
       (held-waited t (u .force) x 0 (linked t x u) (held-linked t x u other worse) (automatic t u))
 
   -- .. and the calls after it count its ticks.
-  goes-on : (f x : ℕ) (g : List Call) → HeldOff t f x 0 (spanAfter n s g) → (h : List Call) → Unlinked own n h
+  goes-on : (f x : ℕ) (g : List Call) → HeldOff t f x 0 (spanAfter n s g) → (h : List Call) → linkTaken own n h ≡ false
       → HeldOff t f x (ticksTaken own h) (spanAfter n s (h ++ g))
-  unfolding Unlinked ticksTaken
+  unfolding linkTaken ticksTaken
   goes-on f x g held [] u = held
   goes-on f x g held (d ∷ h) u =
       let y : Spans = after s (h ++ g) .spans in
       let k : ℕ = ticksTaken own (d ∷ h) in
+      let (first, rest) = neither (isLink n (readAs own d)) (linkTaken own n h) u in
       subst (HeldOff t f x k) (sym (span-call s (h ++ g) d n))
       (held-waited t f x k (spanOf n (acted t (readAs own d) y))
-      (acted-held n side t f x (ticksTaken own h) y (goes-on f x g held h (u .1)) (readAs own d) (sided own (d .bytes) (d .room)) (u .0))
+      (acted-held n side t f x (ticksTaken own h) y (goes-on f x g held h rest) (readAs own d) (sided own (d .bytes) (d .room)) first)
       (automatic t (spanOf n y)))
 
   module _ (g : List Call) (c : Call) (x : ℕ) (is : readAs own c ≡ Link n x) where
     -- A status that differs from the stored one and is worse than the one in force. A setting of 0 is no exception: no tick is below it.
-    pub held-off : (x ≡ spanAfter n s g .stored → ⊥) → spanAfter n s g .force < x → (h : List Call) → Unlinked own n h
+    pub held-off : (x ≡ spanAfter n s g .stored → ⊥) → spanAfter n s g .force < x → (h : List Call) → linkTaken own n h ≡ false
         → HeldOff t (spanAfter n s g .force) x (ticksTaken own h) (spanAfter n s (h ++ (c ∷ g)))
     held-off other worse = goes-on (spanAfter n s g .force) x (c ∷ g) (starts g c x is other worse)
 
@@ -81,7 +83,7 @@ module _ (s : State) (n : ℕ) (side : n ≤ 1) where
     at-once zero other worse = held-over t (spanAfter n s (c ∷ g)) (starts g c x is other worse) (omega arith)
 
     -- A link that was good: degraded, or failed.
-    module _ (stored : spanAfter n s g .stored ≡ good) (force : spanAfter n s g .force ≡ good) (worse : good < x) (h : List Call) (u : Unlinked own n h) where
+    module _ (stored : spanAfter n s g .stored ≡ good) (force : spanAfter n s g .force ≡ good) (worse : good < x) (h : List Call) (u : linkTaken own n h ≡ false) where
       abbrev now : State
       now = after s (h ++ (c ∷ g))
 

@@ -20,7 +20,7 @@ use Rattle.controller.specs.Node.{choiceOf, stateOf}
 use Rattle.controller.specs.Kept.{StateKept}
 use Rattle.controller.specs.Promise.{Begun}
 use Rattle.promises.specs.History.{Call, after, Always, startOf, Made, callOf, callsOf, nodeAfter, Met}
-use Rattle.promises.specs.Spans.{readAs, ticksTaken, Unlinked, Unasked, unasked, spanAfter, requestOn, automaticOn, Unrequested, Swept, SameBeneath}
+use Rattle.promises.specs.Spans.{readAs, ticksTaken, linkTaken, operatorTaken, unasked, spanAfter, requestOn, automaticOn, Unrequested, Swept, SameBeneath}
 use Rattle.promises.proofs.demand2.Coming.{state-after, ruled}
 use Rattle.promises.proofs.spans.HoldOff.{held-off, idle-meanwhile, failed-then}
 use Rattle.promises.proofs.spans.Purging.{started-swept}
@@ -68,7 +68,7 @@ module _ (b : List ℕ) (st : Started) (begun : Begun b st) where
 
   -- Hold-off: m is the link record, g the calls before it, h those after it.
   module _ (n : ℕ) (side : n ≤ 1) (g : List Made) (m : Made) (x : ℕ) (is : readAs own (callOf m) ≡ Link n x) (h : List Made)
-      (met : Met st (h ++ (m ∷ g))) (u : Unlinked own n (callsOf h)) where
+      (met : Met st (h ++ (m ∷ g))) (u : linkTaken own n (callsOf h) ≡ false) where
     abbrev now : State
     now = seen (h ++ (m ∷ g))
 
@@ -126,7 +126,7 @@ module _ (b : List ℕ) (st : Started) (begun : Begun b st) where
 
   -- After the calls g the request comes by the call c, the calls h are made, and it goes by the call d: nothing is lost.
   pub node-as-if-not-come : (n : ℕ) → n ≤ 1 → (g h : List Call) (c d : Call) (request : ℕ) → readAs own c ≡ Operator n request
-      → readAs own d ≡ Operator n none → Unasked own n h → spanAfter n (startOf b) g .operator ≡ none → (k l : List Made) → Met st k → Met st l
+      → readAs own d ≡ Operator n none → operatorTaken own n h ≡ false → spanAfter n (startOf b) g .operator ≡ none → (k l : List Made) → Met st k → Met st l
       → callsOf k ≡ d ∷ (h ++ (c ∷ g)) → callsOf l ≡ h ++ g → (seen k .spans ≡ seen l .spans) × (seen k .stations ≡ seen l .stations)
   unfolding startOf started
   node-as-if-not-come n side g h c d request comes goes u free k l mk ml ek el =

@@ -1,0 +1,192 @@
+-- What the theorems on spans and marks suppose is met, by computation from bytes; and P6 as one of their cases. Assumes nothing.
+use Prim.Native.Nat.{ℕ, zero, suc, _+_, _-_, _≤_}
+use mathlib.Core.Path.{_≡_, refl, sym, subst}
+use mathlib.Core.Bool.{true, false}
+use mathlib.Core.List.{List, [], _∷_, _++_}
+use native.Mathlib.Omega.{arith}
+use Rattle.wire.specs.Fields.{addressAt}
+use Rattle.wire.specs.Head.{broken, headOf}
+use Rattle.settings.specs.Kept.{TicksKept}
+use Rattle.settings.specs.Ticks.{ticksOf}
+use Rattle.settings.specs.Ranges.{inRange}
+use Rattle.settings.specs.Reading.{fieldsOf, fullIn, settingsIn}
+use Rattle.spans.specs.Codes.{failed, MS, SF, IDLE, none}
+use Rattle.spans.specs.HoldOff.{LinkDecides}
+use Rattle.blocks.specs.Types.{knows}
+use Rattle.controller.specs.declared.reading.Reading.the-variants.{Tick, Link, Operator}
+use Rattle.controller.specs.Reading.{blockOf, reading}
+use Rattle.controller.specs.State.{Choice, State, started}
+use Rattle.controller.specs.Node.{choiceOf, westRequest}
+use Rattle.promises.specs.History.{Call, after, answered, Always, AllBytes, startOf}
+use Rattle.promises.specs.Spans.{readAs, ticksTaken, linkTaken, operatorTaken, spanAfter, automaticOn, Unrequested}
+use Rattle.promises.specs.Marks.{OnlyMark}
+use Rattle.promises.specs.Drilled.{callsFor}
+use Rattle.promises.specs.Examples.{address, station, tick, link, keepalive, report, attributes, settings, ticks}
+use Rattle.promises.specs.Possible.{allBytes}
+use Rattle.promises.proofs.demand2.Possible.{all-bytes}
+use Rattle.promises.proofs.spans.HoldOff.{idle-meanwhile, failed-then}
+use Rattle.promises.proofs.spans.Purging.{started-swept}
+use Rattle.promises.proofs.spans.Beneath.{as-if-not-come}
+use Rattle.promises.proofs.spans.Running.{wtr-runs-beneath}
+use Rattle.promises.proofs.spans.Rising.{tick-never-lowers}
+use Rattle.promises.proofs.spans.Marks.{only-mark}
+
+-- Node 1 of the examples in ticks, with a WTR and a hold-off.
+abbrev node : ℕ → ℕ → Choice
+node wtr holdoff = record {
+  address = station 1;
+  known = 1 ∷ 2 ∷ [];
+  ticks = record { wtr = wtr; holdoff = holdoff; keepalive = 50; fast = 10; slow = 100; forget = 1000 };
+}
+
+pub three-steps : choiceOf (settingsIn (settings 2 3) .settings) ≡ node 0 30
+unfolding settingsIn headOf broken fullIn fieldsOf inRange addressAt ticksOf knows
+three-steps = refl
+
+abbrev call : List ℕ → Call
+call b = record { bytes = b; room = 7 }
+
+-- P6: "hold-off 3 steps: failed link is IDLE after 29 ticks, SF after 30 (keepalives coming)".
+abbrev held : State
+held = started (node 0 30)
+
+failing : readAs (station 1) (call (link 0 failed)) ≡ Link 0 failed
+unfolding reading
+failing = refl
+
+-- 29 and 30 ticks are taken, with two keepalives each, and no link record of the span.
+counted : (ticksTaken (station 1) (callsFor (ticks 29)) ≡ 29) × (ticksTaken (station 1) (callsFor (ticks 30)) ≡ 30)
+unfolding ticksTaken ticks
+counted = (refl, refl)
+
+unlinked : (linkTaken (station 1) 0 (callsFor (ticks 29)) ≡ false) × (linkTaken (station 1) 0 (callsFor (ticks 30)) ≡ false)
+unfolding linkTaken ticks
+unlinked = (refl, refl)
+
+link-decides : LinkDecides (held .choice .ticks) (spanAfter 0 held (callsFor (ticks 29) ++ (call (link 0 failed) ∷ [])))
+unfolding started after ticks
+link-decides =
+    let age : spanAfter 0 held (callsFor (ticks 29) ++ (call (link 0 failed) ∷ [])) .age ≡ 1 = refl in
+    record { alone = record { alive = omega arith; unmarked = refl }; unasked = refl; unwaited = refl }
+
+P6-in-ticks : (westRequest (after held (callsFor (link 0 failed ∷ ticks 29))) ≡ IDLE) × (westRequest (after held (callsFor (link 0 failed ∷ ticks 30))) ≡ SF)
+unfolding started after ticks westRequest
+P6-in-ticks = (
+  idle-meanwhile held 0 (omega arith) [] (call (link 0 failed)) failed failing refl refl (omega arith) (callsFor (ticks 29)) (unlinked .0)
+      (omega (arith, counted .0)) link-decides,
+  failed-then held 0 (omega arith) [] (call (link 0 failed)) failed failing refl refl (omega arith) (callsFor (ticks 30)) (unlinked .1) refl
+      (omega (arith, counted .1)) .1,
+)
+
+pub P6-of-all : (westRequest (after (startOf (settings 2 3)) (callsFor (link 0 failed ∷ ticks 29))) ≡ IDLE)
+    × (westRequest (after (startOf (settings 2 3)) (callsFor (link 0 failed ∷ ticks 30))) ≡ SF)
+unfolding startOf
+P6-of-all =
+    subst (λ (c : Choice). (westRequest (after (started c) (callsFor (link 0 failed ∷ ticks 29))) ≡ IDLE)
+    × (westRequest (after (started c) (callsFor (link 0 failed ∷ ticks 30))) ≡ SF)) (sym three-steps) P6-in-ticks
+
+-- A tick without room for a report is refused, and counts for nothing; nor does a record of another kind.
+pub refused-tick : ticksTaken (station 1) (record { bytes = tick; room = 6 } ∷ call (keepalive 0) ∷ call tick ∷ []) ≡ 1
+unfolding ticksTaken
+refused-tick = refl
+
+-- A WTR of ten seconds runs since the link is good again; MS comes, three ticks and a report pass, MS goes.
+abbrev operator : ℕ → ℕ → List ℕ
+operator span request = 4 ∷ 0 ∷ 4 ∷ 0 ∷ span ∷ request ∷ []
+
+abbrev waits : State
+waits = started (node 10000 0)
+
+abbrev earlier : List Call
+earlier = callsFor (link 0 failed ∷ link 0 0 ∷ [])
+
+abbrev meanwhile : List Call
+meanwhile = callsFor (tick ∷ report 0 255 2 1 0 0 ∷ tick ∷ tick ∷ [])
+
+comes : readAs (station 1) (call (operator 0 MS)) ≡ Operator 0 MS
+unfolding reading
+comes = refl
+
+goes : readAs (station 1) (call (operator 0 none)) ≡ Operator 0 none
+unfolding reading
+goes = refl
+
+pub ms-met : after waits (call (operator 0 none) ∷ (meanwhile ++ (call (operator 0 MS) ∷ earlier))) .spans ≡ after waits (meanwhile ++ earlier) .spans
+unfolding started after operatorTaken addressAt
+ms-met =
+    as-if-not-come 0 waits (started-swept (node 10000 0)) earlier (call (operator 0 MS)) meanwhile (call (operator 0 none)) MS comes goes (omega arith) refl refl
+    .0
+
+-- No automatic request at any point, so 9,997 ticks are left.
+undisturbed : Always (Unrequested 0 waits earlier) (call (operator 0 none) ∷ (meanwhile ++ (call (operator 0 MS) ∷ [])))
+unfolding started Always after addressAt
+undisturbed = (refl, (refl, (refl, (refl, (refl, (refl, refl))))))
+
+pub wtr-met : spanAfter 0 waits ((call (operator 0 none) ∷ (meanwhile ++ (call (operator 0 MS) ∷ []))) ++ earlier) .wtr ≡ 9997
+unfolding started after ticksTaken addressAt
+wtr-met = wtr-runs-beneath waits 0 earlier (call (operator 0 MS)) meanwhile (call (operator 0 none)) MS comes goes undisturbed
+
+-- The tick that ends a hold-off raises the automatic request from none to SF.
+ticks-met : TicksKept (node 0 10 .ticks)
+ticks-met = record {
+  wtr = omega arith;
+  holdoff = omega arith;
+  keepalive-low = omega arith;
+  keepalive = omega arith;
+  fast-low = omega arith;
+  fast = omega arith;
+  slow-low = omega arith;
+  slow = omega arith;
+  forget-low = omega arith;
+  forget = omega arith;
+}
+
+bytes-met : AllBytes (callsFor (link 0 failed ∷ ticks 9))
+unfolding allBytes ticks
+bytes-met = all-bytes (callsFor (link 0 failed ∷ ticks 9)) refl
+
+ticking : readAs (station 1) (call tick) ≡ Tick
+unfolding reading
+ticking = refl
+
+pub rising-met : automaticOn 0 (after (started (node 0 10)) (callsFor (link 0 failed ∷ ticks 9)))
+    ≤ automaticOn 0 (after (started (node 0 10)) (call tick ∷ callsFor (link 0 failed ∷ ticks 9)))
+rising-met = tick-never-lowers (node 0 10) ticks-met (callsFor (link 0 failed ∷ ticks 9)) bytes-met (call tick) ticking 0
+
+pub rising-is : (automaticOn 0 (after (started (node 0 10)) (callsFor (link 0 failed ∷ ticks 9))) ≡ none)
+    × (automaticOn 0 (after (started (node 0 10)) (call tick ∷ callsFor (link 0 failed ∷ ticks 9))) ≡ SF)
+unfolding started after ticks
+rising-is = (refl, refl)
+
+-- Reports that are not taken: heard on a span, with a ringlet and a TTL, from station 2.
+abbrev heardOn : ℕ → ℕ → ℕ → ℕ → List ℕ
+heardOn span ringlet ttl sequence = (14 ∷ 0 ∷ 5 ∷ 0 ∷ span ∷ ringlet ∷ ttl ∷ []) ++ (address 2 ++ (sequence ∷ 0 ∷ 0 ∷ []))
+
+abbrev plain : State
+plain = started (node 0 0)
+
+abbrev resultAfter : List (List ℕ) → List ℕ → ℕ
+resultAfter l b = answered plain (callsFor l) (call b) .result
+
+-- So many stations on ringlet 0, the first at hop 1; a new one on ringlet 1 then has no place.
+unfoldable pub crowd : ℕ → List (List ℕ)
+crowd zero = []
+crowd (suc k) = crowd k ++ (report 0 (255 - k) (k + 2) 1 0 0 ∷ [])
+
+pub twenty-to-twenty-three : (resultAfter [] (heardOn 0 1 255 1) ≡ 20)
+    × (resultAfter (heardOn 0 1 255 1 ∷ []) (heardOn 0 0 254 1) ≡ 21)
+    × (resultAfter (heardOn 0 0 255 200 ∷ []) (heardOn 0 0 255 73) ≡ 22)
+    × (resultAfter (crowd 63) (report 1 255 65 1 0 0) ≡ 23)
+    × (resultAfter (heardOn 0 1 255 1 ∷ []) (attributes 2 []) ≡ 21)
+unfolding started after addressAt crowd
+twenty-to-twenty-three = (refl, refl, refl, refl, refl)
+
+-- The mark is set at hop 1, not at hop 2; and what only-mark says of the first.
+pub marks : (spanAfter 0 plain (callsFor (heardOn 0 1 255 1 ∷ [])) .cable ≡ true) × (spanAfter 0 plain (callsFor (heardOn 0 1 254 1 ∷ [])) .cable ≡ false)
+unfolding started after addressAt
+marks = (refl, refl)
+
+pub marks-alone : OnlyMark plain (blockOf (heardOn 0 1 255 1)) (resultAfter [] (heardOn 0 1 255 1)) (readAs (station 1) (call (heardOn 0 1 255 1)))
+unfolding started after
+marks-alone =
+    only-mark plain (heardOn 0 1 255 1) 7 (omega (arith, twenty-to-twenty-three .0)) (omega (arith, twenty-to-twenty-three .0))
