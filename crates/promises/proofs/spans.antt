@@ -2,6 +2,7 @@
 pub mod Readings
 pub mod OneRecord
 pub mod HoldOff
+pub mod Keepalives
 pub mod Purging
 pub mod Unseen
 pub mod Beneath

@@ -3,7 +3,7 @@ use Prim.Native.Nat.{ℕ, suc}
 use mathlib.Core.Path.{_≡_}
 use mathlib.Core.Bool.{Bool, false, cond, _||_}
 use mathlib.Core.List.{List, [], _∷_, _++_}
-use lib.Dec.{eqb}
+use lib.Dec.{eqb, ltb}
 use Rattle.spans.specs.declared.span.Span.{Span}
 use Rattle.spans.specs.Codes.{none}
 use Rattle.spans.specs.Records.{asked}
@@ -39,11 +39,32 @@ isOperator n (Operator m request) = eqb m n
 isOperator n (Heard m p) = false
 isOperator n (Block m a) = false
 
+-- A keepalive record of span n.
+abbrev pub isKeepalive : ℕ → Reading → Bool
+isKeepalive n (Refused k) = false
+isKeepalive n Tick = false
+isKeepalive n (Link m status) = false
+isKeepalive n (Keepalive m) = eqb m n
+isKeepalive n (Operator m request) = false
+isKeepalive n (Heard m p) = false
+isKeepalive n (Block m a) = false
+
 -- The ticks of a history that were taken. A record that was refused is none, whatever its kind.
 unfoldable pub ticksTaken : ℕ → List Call → ℕ
 unfolding reading
 ticksTaken own [] = 0
 ticksTaken own (c ∷ h) = cond (isTick (readAs own c)) (suc (ticksTaken own h)) (ticksTaken own h)
+
+-- The ticks that were taken since the latest keepalive record of span n; a of them before the history.
+unfoldable pub ticksQuiet : ℕ → ℕ → ℕ → List Call → ℕ
+unfolding reading
+ticksQuiet own n a [] = a
+ticksQuiet own n a (c ∷ h) =
+    cond (isKeepalive n (readAs own c)) 0 (cond (isTick (readAs own c)) (suc (ticksQuiet own n a h)) (ticksQuiet own n a h))
+
+-- A count "up to the setting".
+abbrev pub upTo : ℕ → ℕ → ℕ
+upTo setting a = cond (ltb a setting) a setting
 
 -- A link record of span n was taken ..
 unfoldable pub linkTaken : ℕ → ℕ → List Call → Bool

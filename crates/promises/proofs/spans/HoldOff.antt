@@ -35,8 +35,7 @@ module _ (n : ℕ) (side : n ≤ 1) (t : Ticks) (f x k : ℕ) (y : Spans) (held 
       touched (HeldOff t f x k) (linked t status) m n y
       (λ e. absurd (true≢false (sym (eq-eqb m n (same-span m n low side e)) ∙ u))) held
   acted-held (Keepalive m) low u = touched (HeldOff t f x k) alive m n y (λ e. held-alive t f x k (spanOf n y) held) held
-  acted-held (Operator m request) low u =
-      touched (HeldOff t f x k) (asked request) m n y (λ e. held-asked t f x k (spanOf n y) held request) held
+  acted-held (Operator m q) low u = touched (HeldOff t f x k) (asked q) m n y (λ e. held-asked t f x k (spanOf n y) held q) held
   acted-held (Heard m p) low u = cabled-touched (HeldOff t f x k) m n p y (held-marked t f x k (spanOf n y) held) held
   acted-held (Block m a) low u = held
 

@@ -18,13 +18,14 @@ use Rattle.controller.specs.Reading.{blockOf, reading}
 use Rattle.controller.specs.State.{Choice, State, started}
 use Rattle.controller.specs.Node.{choiceOf, westRequest}
 use Rattle.promises.specs.History.{Call, after, answered, Always, AllBytes, startOf}
-use Rattle.promises.specs.Spans.{readAs, ticksTaken, linkTaken, operatorTaken, spanAfter, automaticOn, Unrequested}
+use Rattle.promises.specs.Spans.{readAs, ticksTaken, ticksQuiet, linkTaken, operatorTaken, spanAfter, automaticOn, Unrequested}
 use Rattle.promises.specs.Marks.{OnlyMark}
 use Rattle.promises.specs.Drilled.{callsFor}
 use Rattle.promises.specs.Examples.{address, station, tick, link, keepalive, report, attributes, settings, ticks}
 use Rattle.promises.specs.Possible.{allBytes}
 use Rattle.promises.proofs.demand2.Possible.{all-bytes}
 use Rattle.promises.proofs.spans.HoldOff.{idle-meanwhile, failed-then}
+use Rattle.promises.proofs.spans.Keepalives.{keepalives-coming, silence-is-sf}
 use Rattle.promises.proofs.spans.Purging.{started-swept}
 use Rattle.promises.proofs.spans.Beneath.{as-if-not-come}
 use Rattle.promises.proofs.spans.Running.{wtr-runs-beneath}
@@ -63,11 +64,21 @@ unlinked : (linkTaken (station 1) 0 (callsFor (ticks 29)) ≡ false) × (linkTak
 unfolding linkTaken ticks
 unlinked = (refl, refl)
 
+-- "keepalives coming": one tick since the latest.
+coming : ticksQuiet (station 1) 0 0 (callsFor (ticks 29)) ≡ 1
+unfolding ticksQuiet ticks
+coming = refl
+
 link-decides : LinkDecides (held .choice .ticks) (spanAfter 0 held (callsFor (ticks 29) ++ (call (link 0 failed) ∷ [])))
 unfolding started after ticks
-link-decides =
-    let age : spanAfter 0 held (callsFor (ticks 29) ++ (call (link 0 failed) ∷ [])) .age ≡ 1 = refl in
-    record { alone = record { alive = omega arith; unmarked = refl }; unasked = refl; unwaited = refl }
+link-decides = record {
+  alone = record {
+    alive = keepalives-coming held 0 (omega arith) (call (link 0 failed) ∷ []) 0 refl (callsFor (ticks 29)) (omega (arith, coming));
+    unmarked = refl;
+  };
+  unasked = refl;
+  unwaited = refl;
+}
 
 P6-in-ticks : (westRequest (after held (callsFor (link 0 failed ∷ ticks 29))) ≡ IDLE) × (westRequest (after held (callsFor (link 0 failed ∷ ticks 30))) ≡ SF)
 unfolding started after ticks westRequest
@@ -84,6 +95,22 @@ unfolding startOf
 P6-of-all =
     subst (λ (c : Choice). (westRequest (after (started c) (callsFor (link 0 failed ∷ ticks 29))) ≡ IDLE)
     × (westRequest (after (started c) (callsFor (link 0 failed ∷ ticks 30))) ≡ SF)) (sym three-steps) P6-in-ticks
+
+-- Two ticks in silence, of a node whose keepalive setting is 2.
+abbrev impatient : State
+impatient = started (record {
+  address = station 1;
+  known = 1 ∷ 2 ∷ [];
+  ticks = record { wtr = 0; holdoff = 0; keepalive = 2; fast = 10; slow = 100; forget = 1000 };
+})
+
+two : ticksQuiet (station 1) 0 0 (callsFor (tick ∷ tick ∷ [])) ≡ 2
+unfolding ticksQuiet
+two = refl
+
+pub silence-met : automaticOn 0 (after impatient (callsFor (tick ∷ tick ∷ []) ++ [])) ≡ SF
+unfolding started after
+silence-met = silence-is-sf impatient 0 (omega arith) [] 0 refl (callsFor (tick ∷ tick ∷ [])) (omega (arith, two))
 
 -- A tick without room for a report is refused, and counts for nothing; nor does a record of another kind.
 pub refused-tick : ticksTaken (station 1) (record { bytes = tick; room = 6 } ∷ call (keepalive 0) ∷ call tick ∷ []) ≡ 1
