@@ -24,8 +24,8 @@ use Rattle.promises.specs.History.{Call, after}
 use Rattle.promises.specs.Spans.{readAs, isOperator, operatorTaken, unasked, spanAfter, askedOn, Swept, SameBeneath}
 use Rattle.promises.proofs.demand3.Following.{choice-after}
 use Rattle.promises.proofs.spans.Readings.{Sided, sided, same-span}
-use Rattle.promises.proofs.spans.OneRecord.{spans-call, span-call, touched, cabled-touched, ticked-both}
-use Rattle.promises.proofs.spans.Purging.{after-swept}
+use Rattle.promises.proofs.spans.OneRecord.{spans-alone, spans-call, span-call, touched, cabled-touched, ticked-both}
+use Rattle.promises.proofs.spans.Purging.{swept-none, after-swept}
 use Rattle.promises.proofs.spans.Unseen.{at, bare, bare-twice, bare-settled, same-of, operator-of}
 
 bare-wtr : (a b : Bool) (x : Spans) → at b (bare a x) .wtr ≡ at b x .wtr
@@ -180,3 +180,18 @@ module _ (n : ℕ) where
           → (after s (d ∷ (h ++ (c ∷ g))) .spans ≡ after s (h ++ g) .spans) × (after s (d ∷ (h ++ (c ∷ g))) .stations ≡ after s (h ++ g) .stations)
       as-if-not-come side free u =
           (spans-without ∙ bare-none (eqb n 0) (after s (h ++ g) .spans) (operator-stays n side s g h u ∙ free), comes-and-goes .stations)
+
+-- Of the spans the same holds from any state at all: its stations do not matter, so it may be taken without them.
+module _ (s : State) where
+  abbrev emptied : State
+  emptied = record { choice = s .choice; spans = s .spans; stations = []; pacer = s .pacer }
+
+  pub spans-as-if-not-come : (n : ℕ) → n ≤ 1 → (g : List Call) (c : Call) (h : List Call) (d : Call) (request : ℕ)
+      → readAs (s .choice .address) c ≡ Operator n request → readAs (s .choice .address) d ≡ Operator n none → spanAfter n s g .operator ≡ none
+      → operatorTaken (s .choice .address) n h ≡ false → after s (d ∷ (h ++ (c ∷ g))) .spans ≡ after s (h ++ g) .spans
+  spans-as-if-not-come n side g c h d request comes goes free u =
+      let alone : (k : List Call) → after emptied k .spans ≡ after s k .spans = spans-alone emptied s refl refl in
+      sym (alone (d ∷ (h ++ (c ∷ g))))
+      ∙ as-if-not-come n emptied (swept-none (s .choice .ticks) (s .spans)) g c h d request comes goes side
+      (ap (λ (x : Spans). spanOf n x .operator) (alone g) ∙ free) u .0
+      ∙ alone (h ++ g)

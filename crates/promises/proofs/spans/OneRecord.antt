@@ -110,6 +110,16 @@ module _ (s : State) (h : List Call) (c : Call) where
       go true = refl
       go false = refl
 
+-- The spans go their way by themselves: neither stations nor reports bear on them.
+pub spans-alone : (s u : State) → s .choice ≡ u .choice → s .spans ≡ u .spans → (h : List Call) → after s h .spans ≡ after u h .spans
+unfolding after
+spans-alone s u same e [] = e
+spans-alone s u same e (c ∷ h) =
+    let rest : after s h .spans ≡ after u h .spans = spans-alone s u same e h in
+    spans-call s h c
+    ∙ (λ i. settled (same i .ticks) (rest i) (acted (same i .ticks) (readAs (same i .address) c) (rest i)))
+    ∙ sym (spans-call u h c)
+
 -- A handler's work on one span, seen from the span n.
 pub touched : (P : Span → Type 0) (f : Span → Span) (m n : ℕ) (x : Spans) → (eqb m 0 ≡ eqb n 0 → P (f (spanOf n x))) → P (spanOf n x)
     → P (spanOf n (withSpan m (f (spanOf m x)) x))

@@ -59,15 +59,20 @@ swept-twice t x l = go (down t (x .west)) (down t (x .east))
     go false true = purged-twice 1 l
     go false false = refl
 
-pub started-swept : (c : Choice) → Swept (started c)
-unfolding started swept purged
-started-swept c = go (down (c .ticks) (started c .spans .west)) (down (c .ticks) (started c .spans .east))
+-- Of nobody, nobody leaves.
+pub swept-none : (t : Ticks) (x : Spans) → swept t x [] ≡ []
+unfolding swept purged sifted
+swept-none t x = go (down t (x .west)) (down t (x .east))
   where
     go : (w e : Bool) → purgedIf e 1 (purgedIf w 0 []) ≡ []
     go true true = refl
     go true false = refl
     go false true = refl
     go false false = refl
+
+pub started-swept : (c : Choice) → Swept (started c)
+unfolding started
+started-swept c = swept-none (c .ticks) (started c .spans)
 
 call-swept : (r : Reading) (b : List ℕ) (s : State) → Swept s → Swept (outcomeOf r b s .state)
 unfolding outcomeOf closed
