@@ -2,7 +2,7 @@
 use Prim.Native.Nat.{ℕ}
 use mathlib.Core.Path.{_≡_, refl, sym, _∙_, ap}
 use mathlib.Core.Bool.{Bool, true, false, not, cond, _||_, false≢true}
-use mathlib.Core.List.{List, [], _∷_, _++_}
+use mathlib.Core.List.{List, [], _∷_}
 use mathlib.Core.Option.{Option, none, some}
 use lib.ListN.{length}
 use lib.Dec.{eqb, ltb}
@@ -154,9 +154,3 @@ ticked-both t n x = go (eqb n 0)
     go : (b : Bool) → cond b (ticked t (x .west)) (ticked t (x .east)) ≡ ticked t (cond b (x .west) (x .east))
     go true = refl
     go false = refl
-
--- Histories one after the other.
-pub after-append : (s : State) (g h : List Call) → after s (h ++ g) ≡ after (after s g) h
-unfolding after
-after-append s g [] = refl
-after-append s g (c ∷ h) = ap (λ (x : State). outcome x (c .bytes) (c .room) .state) (after-append s g h)
