@@ -4,6 +4,7 @@ pub mod Dress
 pub mod Step
 pub mod Showing
 pub mod Following
+pub mod Latest
 pub mod TwoNodes
 pub mod Demand3
 pub mod Meets3

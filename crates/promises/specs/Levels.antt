@@ -6,6 +6,7 @@ use mathlib.Core.Bool.{Bool, true, false, not, cond, _&&_, _||_}
 use mathlib.Core.List.{List, [], _∷_, _++_}
 use mathlib.Core.Option.{Option, none, some}
 use lib.Dec.{eqb}
+use Rattle.wire.specs.Report.{over}
 use Rattle.settings.specs.declared.choice.Settings.{Settings}
 use Rattle.blocks.specs.declared.attributes.Attributes.{Attributes}
 use Rattle.blocks.specs.Types.{among}
@@ -20,7 +21,7 @@ use Rattle.controller.specs.declared.reading.Reading.the-variants.{Refused, Tic
 use Rattle.controller.specs.Reading.{blockOf, reading}
 use Rattle.controller.specs.State.{Choice, State}
 use Rattle.controller.specs.declared.ask.Shown.{Shown}
-use Rattle.controller.specs.Node.{westRequest, eastRequest, steered, shown, asked}
+use Rattle.controller.specs.Node.{wrote, westRequest, eastRequest, steered, shown, asked}
 use Rattle.controller.specs.Record.{Outcome}
 use Rattle.promises.specs.History.{Call, after, answered, Made}
 
@@ -130,6 +131,17 @@ SameResult x y = (x ≡ y) ⊎ ((x ≡ 24) × (y ≡ 0))
 pub record SameAnswer (x o : Outcome) : Type 0 where
   pub report : x .report ≡ o .report
   pub result : SameResult (x .result) (o .result)
+
+-- One call as two programs made it, x of the smaller node and y of the larger, each with a buffer of its own.
+pub record SameCall (x y : Made) : Type 0 where
+  -- Both tell a report, or neither does.
+  pub told : x .answer .wrote ≡ y .answer .wrote
+  -- It is the same report, of no bytes where none is told, over the front of either buffer.
+  pub report : List ℕ
+  pub tells : x .answer .wrote ≡ wrote report
+  pub smaller : x .new ≡ over report (x .old)
+  pub larger : y .new ≡ over report (y .old)
+  pub result : SameResult (x .answer .result) (y .answer .result)
 
 -- Settings of another level, and else the same.
 abbrev pub withLevel : ℕ → Settings → Settings

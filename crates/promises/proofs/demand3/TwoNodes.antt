@@ -13,11 +13,12 @@ use Rattle.blocks.proofs.Known.{knows-more}
 use Rattle.controller.specs.declared.node.Started.{Started}
 use Rattle.controller.specs.State.{Choice, State, started}
 use Rattle.controller.specs.Record.{Outcome}
-use Rattle.controller.specs.Node.{choiceOf, stateOf}
+use Rattle.controller.specs.Node.{choiceOf, stateOf, wrote}
 use Rattle.controller.specs.Promise.{Begun}
 use Rattle.promises.specs.History.{Call, after, answered, startOf, Made, callOf, callsOf, nodeAfter, Met}
-use Rattle.promises.specs.Levels.{NoEight, latest, noBlocks, knowing, dressed, Levelled, SameAnswer, SameResult, withLevel, NoEightMade}
+use Rattle.promises.specs.Levels.{NoEight, latest, noBlocks, knowing, dressed, Levelled, SameAnswer, SameCall, withLevel, NoEightMade}
 use Rattle.promises.proofs.demand3.Following.{answers, follows, levels}
+use Rattle.promises.proofs.demand3.Latest.{latest-alike}
 use Rattle.promises.proofs.demand2.Coming.{state-after, answered-as}
 use Rattle.promises.proofs.demand2.Drilling.{lastOf}
 
@@ -34,6 +35,11 @@ module _ (c : Choice) (K : List ℕ) (sub : Sub K (c .known)) where
   same-answers h d n =
       let q = answers noBlocks (started c) (λ a p. refl) K sub h d (follows noBlocks (started c) (λ a p. refl) K sub h (n .1)) (n .0) in
       record { report = q .report; result = q .result }
+
+  pub latest-by-either : (h : List Call) → NoEight (started c) h
+      → (a : ℕ) → latest noBlocks (started (knowing K c)) h a ≡ latest noBlocks (started c) h a
+  unfolding started dressed
+  latest-by-either h n a = latest-alike noBlocks (started c) (λ a p. refl) K sub h n a
 
 -- To nodes of the program: b are the settings bytes of the larger node, a those of one of a lower level; each call of both met its contract.
 module _ (a b : List ℕ) (level : ℕ) (lower : level ≤ settingsIn b .settings .level) (equal : settingsIn a .settings ≡ withLevel level (settingsIn b .settings))
@@ -57,6 +63,11 @@ module _ (a b : List ℕ) (level : ℕ) (lower : level ≤ settingsIn b .setting
     no-eight h (met .1) (n .1),
   )
 
+  pub same-latest : (g h : List Made) → callsOf g ≡ callsOf h → Met large h → NoEightMade h
+      → (s : ℕ) → latest noBlocks (startOf a) (callsOf g) s ≡ latest noBlocks (startOf b) (callsOf h) s
+  unfolding startOf
+  same-latest g h same met-large n s = rw (same, smaller-start) (latest-by-either c (knows level) sub (callsOf h) (no-eight h met-large n) s)
+
   pub nodes-levelled : (g h : List Made) → callsOf g ≡ callsOf h → Met small g → Met large h → NoEightMade h
       → Levelled (knows level) (latest noBlocks (startOf b) (callsOf h)) (stateOf (nodeAfter small g)) (stateOf (nodeAfter large h))
   unfolding startOf
@@ -64,18 +75,25 @@ module _ (a b : List ℕ) (level : ℕ) (lower : level ≤ settingsIn b .setting
       rw (state-after a small begun-small g met-small, state-after b large begun-large h met-large, same, smaller-start)
       (at-one-point c (knows level) sub (callsOf h) (no-eight h met-large n))
 
-  -- Each call gives the same report and leaves the same buffer, and its result is the same but for 24 beside 0.
-  pub calls-alike : (g h : List Made) (x y : Made) → callsOf (x ∷ g) ≡ callsOf (y ∷ h) → x .old ≡ y .old → Met small (x ∷ g) → Met large (y ∷ h)
-      → NoEightMade (y ∷ h) → (x .new ≡ y .new) × SameResult (x .answer .result) (y .answer .result)
+  -- The calls themselves, one by one.
+  pub calls-alike : (g h : List Made) (x y : Made) → callsOf (x ∷ g) ≡ callsOf (y ∷ h) → Met small (x ∷ g) → Met large (y ∷ h) → NoEightMade (y ∷ h)
+      → SameCall x y
   unfolding callsOf startOf
-  calls-alike g h x y same old met-small met-large n =
+  calls-alike g h x y same met-small met-large n =
       let u : Outcome = answered (started (knowing (knows level) c)) (callsOf h) (callOf y) in
       let v : Outcome = answered (started c) (callsOf h) (callOf y) in
       let s : SameAnswer u v = same-answers c (knows level) sub (callsOf h) (callOf y) (no-eight (y ∷ h) met-large n) in
       let e : answered (startOf a) (callsOf g) (callOf x) ≡ u =
       ap (lastOf (startOf a)) same ∙ ap (λ (z : State). answered z (callsOf h) (callOf y)) smaller-start in
       let p = answered-as a small begun-small g x met-small in
-      let q = answered-as b large begun-large h y met-large in (
-        p .content ∙ ap (λ (o : Outcome). over (o .report) (x .old)) e ∙ rw (s .report, old) refl ∙ sym (q .content),
-        rw (p .result ∙ ap (λ (o : Outcome). o .result) e, q .result) (s .result),
-      )
+      let q = answered-as b large begun-large h y met-large in
+      let report : answered (startOf a) (callsOf g) (callOf x) .report ≡ v .report = ap (λ (o : Outcome). o .report) e ∙ s .report in
+      let tells : x .answer .wrote ≡ wrote (v .report) = p .written ∙ ap wrote report in
+      record {
+        told = tells ∙ sym (q .written);
+        report = v .report;
+        tells = tells;
+        smaller = p .content ∙ ap (λ (l : List ℕ). over l (x .old)) report;
+        larger = q .content;
+        result = rw (p .result ∙ ap (λ (o : Outcome). o .result) e, q .result) (s .result);
+      }
