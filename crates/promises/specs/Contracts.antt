@@ -1,10 +1,12 @@
--- What a contract asks and promises, as plain types. T is the signature of a function, with what its contract sees at exit.
+-- What a contract asks and promises, as plain types, and that a routine meets it. T is the signature of a function, with what its contract sees at exit.
 use mathlib.Core.Path.{_≡_}
-use base.Logic.{SProp}
+use base.Logic.{SProp, emp}
+use prog.Routine.{Routine}
 use contract.Monad.{fact}
 use contract.Lifetimes.{Lfts}
 use denote.Triple.Entry.{Args, Res}
-use denote.Triple.Clauses.{Ended, AtExit}
+use denote.Triple.Clauses.{Ended, AtExit, Clauses, closing}
+use denote.Triple.Spec.{Meets}
 use borrow.Fn.World.{World}
 
 -- What is asked: of the lifetimes and the arguments.
@@ -43,3 +45,26 @@ IsAsked T R pre Q = Asks T R Q × (_≡_ {A = Asking T} pre Q)
 -- The ensures E says P, and P is also the plain type that is read from it.
 abbrev pub IsPromised : (T : Ended) → Ensures T → Promise T → Promise T → Type 2
 IsPromised T E post P = Says T E P × (_≡_ {A = Promise T} post P)
+
+-- The contract that asks R and promises P, in the model w of the logic.
+abbrev pub clausesOf : (T : Ended) → Requires T → Promise T → (w : World) → Clauses (w .𝓤) T
+clausesOf T R P w κs a = record {
+  ghost = Unit {0};
+  requires = λ g. R κs a g w;
+  ensures = λ g x e. fact (w .𝓤) (P κs a x e);
+}
+
+-- r is the routine of a function, what the machine does on a call of it. In every model of the logic a call that meets R ends, with an answer and arguments at exit of
+-- which P holds.
+abbrev pub MeetsContract : (T : Ended) → Routine → Requires T → Promise T → Type 2
+MeetsContract T r R P =
+    (w : World) → Meets (w .𝓤) (w .H) (w .𝓖 .A) (T .signature) (w .𝓡 .run r)
+    (closing (w .𝓤) (w .H) (w .𝓖 .A) T (clausesOf T R P w))
+
+-- .. a call with arguments of which Q holds, and nothing else is asked.
+abbrev pub RoutineMeets : (T : Ended) → Routine → Asking T → Promise T → Type 2
+RoutineMeets T r Q P = MeetsContract T r (λ κs a g w. fact (w .𝓤) (Q κs a)) P
+
+-- .. a call with any arguments.
+abbrev pub RoutineAlwaysMeets : (T : Ended) → Routine → Promise T → Type 2
+RoutineAlwaysMeets T r P = MeetsContract T r (λ κs a g w. emp (w .𝓤)) P

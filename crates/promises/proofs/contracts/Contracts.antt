@@ -1,4 +1,4 @@
--- The contracts of the controller are the definitions that the demands cite, by computation. Assumes nothing.
+-- The contracts of the controller, and of the writer and the reader of blocks, are the definitions that the demands cite, by computation. Assumes nothing.
 use mathlib.Core.Path.{_≡_, refl}
 use lib.ListN.{length}
 use base.Logic.{emp}
@@ -6,6 +6,9 @@ use contract.Lifetimes.{Lfts}
 use denote.Ref.{now}
 use denote.Triple.Entry.{Args}
 use borrow.Fn.World.{World}
+use Rattle.blocks.proofs as blocks
+use Rattle.blocks.specs.Meaning.{blockAt}
+use Rattle.blocks.specs.Writing.{Wrote}
 use Rattle.controller.proofs as controller
 use Rattle.controller.specs.Node.{stateOf, westRequest, eastRequest, steered, asked}
 use Rattle.controller.specs.Kept.{Kept}
@@ -83,3 +86,24 @@ pub station-count-is :
     IsPromised controller.station_count.ended controller.station_count.Reads.ensures controller.station_count.Reads.Post
     (λ κs a x e. x ≡ length (stateOf (a .0) .stations))
 station-count-is = (λ w κs a x e. refl, refl)
+
+-- The writer and the reader of blocks ask nothing: any numbers, any buffer, any bytes.
+pub write-block-asks :
+    ((w : World) (κs : Lfts 1) (a : Args blocks.write_block.signature κs) → blocks.write_block.Reads.requires κs a tt w ≡ emp (w .𝓤))
+    × (_≡_ {A = Asking blocks.write_block.ended} blocks.write_block.Reads.Pre (λ κs a. Unit {0}))
+write-block-asks = (λ w κs a. refl, refl)
+
+pub write-block-is :
+    IsPromised blocks.write_block.ended blocks.write_block.Reads.ensures blocks.write_block.Reads.Post
+    (λ κs a x e. Wrote (a .1 .0) (a .1 .1 .0) (a .1 .1 .1 .0) (a .1 .1 .1 .1 .0) (a .1 .1 .1 .1 .1 .0) (now (a .0)) (now (e .0)) x)
+write-block-is = (λ w κs a x e. refl, refl)
+
+pub read-block-asks :
+    ((w : World) (κs : Lfts 1) (a : Args blocks.read_block.signature κs) → blocks.read_block.Reads.requires κs a tt w ≡ emp (w .𝓤))
+    × (_≡_ {A = Asking blocks.read_block.ended} blocks.read_block.Reads.Pre (λ κs a. Unit {0}))
+read-block-asks = (λ w κs a. refl, refl)
+
+pub read-block-is :
+    IsPromised blocks.read_block.ended blocks.read_block.Reads.ensures blocks.read_block.Reads.Post
+    (λ κs a x e. x ≡ blockAt (a .1 .0) (now (a .0)))
+read-block-is = (λ w κs a x e. refl, refl)
