@@ -7,4 +7,5 @@ pub mod Following
 pub mod Latest
 pub mod TwoNodes
 pub mod Demand3
+pub mod Counterexample
 pub mod Meets3

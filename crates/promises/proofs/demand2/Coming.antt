@@ -16,7 +16,7 @@ use Rattle.controller.specs.Kept.{Kept}
 use Rattle.controller.specs.Promise.{Begun, Recorded}
 use Rattle.controller.proofs.Nodes.{state-of-node}
 use Rattle.promises.specs.History.{after, answered, startOf, Made, callOf, callsOf, nodeAfter, Met, Ruled, AnsweredAs}
-use Rattle.promises.proofs.demand3.Following.{choice-after}
+use Rattle.promises.proofs.demand2.AfterKept.{choice-after}
 
 record Came (c : Settings) (n : Node) (s : State) : Type 0 where
   is : n ≡ nodeOf c s

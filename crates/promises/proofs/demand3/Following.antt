@@ -16,17 +16,11 @@ use Rattle.controller.specs.Reading.{blockOf, reading}
 use Rattle.controller.specs.State.{State, spanOf}
 use Rattle.controller.specs.Handling.{gives, learning}
 use Rattle.controller.specs.Record.{Outcome, closed, unlessRefused, outcomeOf, outcome}
-use Rattle.controller.proofs.Holding.{outcome-choice}
 use Rattle.promises.specs.History.{Call, after, answered}
 use Rattle.promises.specs.Levels.{NoEight, blockHeard, takenOrAside, newer, latest, dressed, Levelled, attributesBy, under}
+use Rattle.promises.proofs.demand2.AfterKept.{choice-after}
 use Rattle.promises.proofs.demand3.Step.{Alike, step}
 use Rattle.promises.proofs.demand3.Showing.{levelled}
-
--- The settings stay.
-pub choice-after : (s : State) (h : List Call) → after s h .choice ≡ s .choice
-unfolding after
-choice-after s [] = refl
-choice-after s (c ∷ h) = outcome-choice (after s h) (c .bytes) (c .room) ∙ choice-after s h
 
 -- A malformed block is neither taken nor set aside.
 malformed-not : (n a : ℕ) (b : List ℕ) (s : State) → meaning (s .choice .known) b ≡ malformed

@@ -11,7 +11,7 @@ use Rattle.stations.specs.Stations.{present}
 use Rattle.controller.specs.declared.reading.Reading.{Reading}
 use Rattle.controller.specs.Reading.{reading}
 use Rattle.controller.specs.State.{State}
-use Rattle.promises.specs.History.{Call, after, answered}
+use Rattle.promises.specs.History.{Call, answered}
 use Rattle.promises.specs.Levels.{NoEight, takenOrAside, latestNow, latest, SameResult, attributesBy, under}
 use Rattle.promises.proofs.demand3.Dress.{present-dressed}
 use Rattle.promises.proofs.demand3.Following.{answers, follows}

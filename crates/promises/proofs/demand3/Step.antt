@@ -106,6 +106,10 @@ same-latest : (b : Bool) (o : Option (List ℕ)) → o ≡ newer (cond b none no
 same-latest true o = refl
 same-latest false o = refl
 
+-- .. and where it was one that is neither taken nor set aside.
+uncounted : (k : ℕ) (x o : Option (List ℕ)) → takenOrAside k ≡ false → o ≡ newer (cond (takenOrAside k) x none) o
+uncounted k x o e = rw e
+
 -- The latest blocks before a record are those of L; s is the larger node.
 module _ (K : List ℕ) (L : ℕ → Option (List ℕ)) (s : State) (bytes : List ℕ) where
   abbrev f : ℕ → Attributes
@@ -190,10 +194,12 @@ module _ (K : List ℕ) (L : ℕ → Option (List ℕ)) (s : State) (bytes : Lis
     unfolding latestNow closed
     choosing true p m m2 e i h =
         alike K f (next r (choice true p m2 s)) (choice true p m (under K f s)) (choice true p m2 s)
-        (unless-under K f false s (s .spans) (gives 21 (s .stations))) (λ z q. rw q)
+        (unless-under K f false s (s .spans) (gives 21 (s .stations)))
+        (λ z q. ap (attributesBy K) (rw q (uncounted 21 (blockHeard z r bytes) (L z) refl)))
     choosing false true m m2 e i h = judging m m2 e i h
     choosing false false m m2 e i h =
-        alike K f (next r (choice false false m2 s)) (choice false false m (under K f s)) (choice false false m2 s) refl (λ z q. rw q)
+        alike K f (next r (choice false false m2 s)) (choice false false m (under K f s)) (choice false false m2 s) refl
+        (λ z q. ap (attributesBy K) (rw q (uncounted 7 (blockHeard z r bytes) (L z) refl)))
 
     block-step : (m2 : Meaning) → meaning (s .choice .known) (blockOf bytes) ≡ m2 → (m : Meaning) → meaning K (blockOf bytes) ≡ m
         → Beside m m2 → (outcomeOf r (blockOf bytes) s .result ≡ 8 → ⊥) → Stepped r
