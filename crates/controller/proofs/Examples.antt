@@ -1,4 +1,4 @@
--- The worked drill of 01, from its settings record, by computation: its eight lines, and the reports that it writes. Assumes nothing.
+-- The worked drill of 01, from its settings record, by computation: its eight lines, and the reports that it writes; and that room is tested before all else. Assumes nothing.
 use Prim.Native.Nat.{ℕ}
 use mathlib.Core.Path.{_≡_, refl}
 use mathlib.Core.Bool.{cond}
@@ -12,6 +12,7 @@ use Rattle.settings.specs.Ranges.{inRange}
 use Rattle.settings.specs.Reading.{fieldsOf, fullIn, settingsIn}
 use Rattle.spans.specs.Requests.{request}
 use Rattle.stations.specs.Table.{blank, tableOf}
+use Rattle.controller.specs.Reading.{Refused, reading}
 use Rattle.controller.specs.Record.{outcome}
 use Rattle.controller.specs.Node.{Node, Answer, stateOf, answerOf, startedWith}
 
@@ -76,3 +77,8 @@ pub drill-reports : reports (startedWith settingsRecord .node) records
     ∷ (5 ∷ 0 ∷ 16 ∷ 0 ∷ 4 ∷ 3 ∷ 0 ∷ []) ∷ [] ∷ []
 unfolding reports startedWith settingsIn headOf broken fullIn fieldsOf inRange addressAt tableOf ticksOf blank reportBytes
 drill-reports = refl
+
+-- 1 before 2: no byte of a record, and a room of six.
+pub room-first : (own : ℕ) → reading own [] 6 ≡ Refused 1
+unfolding reading broken
+room-first own = refl
