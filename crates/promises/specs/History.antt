@@ -6,6 +6,7 @@ use lib.ListN.{length}
 use Rattle.wire.specs.Fields.{Bytes}
 use Rattle.wire.specs.Report.{over}
 use Rattle.settings.specs.Reading.{settingsIn}
+use Rattle.ways.specs.Choice.{number}
 use Rattle.controller.specs.State.{State, started}
 use Rattle.controller.specs.Record.{Outcome, outcome}
 use Rattle.controller.specs.declared.node.Node.{Node}
@@ -77,7 +78,7 @@ pub record Ruled (b : List ℕ) (n : Node) (s : State) : Type 0 where
   pub east : eastRequest (stateOf n) ≡ eastRequest s
   pub stations : stateOf n .stations ≡ s .stations
   pub sequence : stateOf n .pacer .sequence ≡ s .pacer .sequence
-  pub ways : (a : ℕ) → steered (stateOf n) a ≡ steered s a
+  pub ways : (a : ℕ) → number (steered (stateOf n) a) ≡ number (steered s a)
   pub attributes : (a : ℕ) → asked (stateOf n) a ≡ asked s a
 
 -- A call was answered as the rules answer it: the result, whether a report was written, and the whole buffer.

@@ -6,6 +6,7 @@ use lib.ListN.{length}
 use Rattle.wire.specs.Report.{over}
 use Rattle.settings.specs.declared.choice.Settings.{Settings}
 use Rattle.settings.specs.Reading.{settingsIn}
+use Rattle.ways.specs.Choice.{number}
 use Rattle.controller.specs.declared.node.Node.{Node}
 use Rattle.controller.specs.declared.node.Started.{Started}
 use Rattle.controller.specs.declared.record.Answer.{Answer}
@@ -73,7 +74,7 @@ module _ (b : List ℕ) (st : Started) (begun : Begun b st) where
         east = ap eastRequest e;
         stations = ap (λ (s : State). s .stations) e;
         sequence = ap (λ (s : State). s .pacer .sequence) e;
-        ways = λ a. ap (λ (s : State). steered s a) e;
+        ways = λ a. ap (λ (s : State). number (steered s a)) e;
         attributes = λ a. ap (λ (s : State). asked s a) e;
       }
 

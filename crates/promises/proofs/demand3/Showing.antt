@@ -16,7 +16,7 @@ use Rattle.blocks.specs.Attributes.{absent, valued, behindWith, attributesFrom}
 use Rattle.blocks.specs.Levels.{Sub, Fewer}
 use Rattle.blocks.proofs.Fewer.{fewer, values-kept}
 use Rattle.stations.specs.Stations.{present, attributesOf}
-use Rattle.ways.specs.Choice.{wayTo, hopOf}
+use Rattle.ways.specs.Choice.{number, wayTo, hopOf}
 use Rattle.controller.specs.State.{State}
 use Rattle.controller.specs.declared.ask.Shown.{Shown}
 use Rattle.controller.specs.Node.{westRequest, eastRequest, steered, shown, asked}
@@ -164,7 +164,7 @@ module _ (K : List ℕ) (late : ℕ → Option (List ℕ)) (s : State) (sub : Su
     west = refl;
     east = refl;
     pacer = refl;
-    steering = steered-under;
+    steering = λ a. ap number (steered-under a);
     behind = behind-both;
     says = says-behind;
     reply = λ a n. same-asked own a n .reply;

@@ -14,9 +14,8 @@ use Rattle.settings.specs.Reading.{fieldsOf, fullIn, settingsIn}
 use Rattle.spans.specs.Codes.{IDLE, SD, SF}
 use Rattle.blocks.specs.Types.{knows}
 use Rattle.stations.specs.Stations.{present}
-use Rattle.ways.specs.declared.choice.Reply.the-variants.{West, East, NoWay}
 use Rattle.ways.specs.Walk.{Ends}
-use Rattle.ways.specs.Choice.{hopOf}
+use Rattle.ways.specs.Choice.{number, hopOf}
 use Rattle.controller.specs.State.{Choice, State, started}
 use Rattle.controller.specs.Node.{choiceOf, westRequest, eastRequest, steered}
 use Rattle.promises.specs.History.{after, AllBytes}
@@ -64,7 +63,7 @@ pub west-bytes : AllBytes (callsFor (ring IDLE))
 unfolding allBytes
 west-bytes = all-bytes (callsFor (ring IDLE)) refl
 
-pub west-met : steered (state (ring IDLE)) (station 3) ≡ West
+pub west-met : number (steered (state (ring IDLE)) (station 3)) ≡ 0
 unfolding started after steered addressAt
 west-met = refl
 
@@ -84,7 +83,7 @@ pub east-bytes : AllBytes (callsFor (ring SD))
 unfolding allBytes
 east-bytes = all-bytes (callsFor (ring SD)) refl
 
-pub east-met : steered (state (ring SD)) (station 3) ≡ East
+pub east-met : number (steered (state (ring SD)) (station 3)) ≡ 1
 unfolding started after steered addressAt
 east-met = refl
 
@@ -149,11 +148,11 @@ said-rejoined = refl
 abbrev westward : ℕ → List (List ℕ)
 westward requested = report 0 255 2 1 IDLE IDLE ∷ report 0 254 3 1 IDLE requested ∷ []
 
-pub far-end-idle : steered (state (westward IDLE)) (station 3) ≡ West
+pub far-end-idle : number (steered (state (westward IDLE)) (station 3)) ≡ 0
 unfolding started after steered addressAt
 far-end-idle = refl
 
-pub far-end-failed : steered (state (westward SF)) (station 3) ≡ NoWay
+pub far-end-failed : number (steered (state (westward SF)) (station 3)) ≡ 2
 unfolding started after steered addressAt
 far-end-failed = refl
 

@@ -1,7 +1,7 @@
 -- After any history, a way that is answered crosses no span on which either end's latest known request is SF or FS.
 -- `said` is that latest knowledge, defined on the history; the table is shown to hold it. Assumes nothing.
 use Prim.Native.Nat.{ℕ, _<_, _≤_}
-use mathlib.Core.Path.{_≡_, refl, sym, _∙_, subst}
+use mathlib.Core.Path.{_≡_, refl, sym, _∙_, ap, subst}
 use mathlib.Core.Bool.{false}
 use mathlib.Core.List.{List, [], _∷_}
 use mathlib.Core.Option.{none, some}
@@ -13,7 +13,7 @@ use Rattle.stations.specs.Table.{Each, Ascending}
 use Rattle.ways.specs.Walk.{Ends}
 use Rattle.ways.specs.declared.choice.Reply.{Reply}
 use Rattle.ways.specs.declared.choice.Reply.the-variants.{West, East}
-use Rattle.ways.specs.Choice.{hopOf}
+use Rattle.ways.specs.Choice.{number, hopOf}
 use Rattle.ways.specs.Usable.{Open}
 use Rattle.ways.proofs.Choosing.{west-usable, east-usable}
 use Rattle.ways.proofs.Opening.{way-open}
@@ -27,6 +27,7 @@ use Rattle.promises.specs.History.{Call, after, AllBytes, startOf, Made,
 use Rattle.promises.specs.Steering.{said, StandsAt, Clear}
 use Rattle.promises.proofs.demand2.AfterKept.{after-kept}
 use Rattle.promises.proofs.demand2.Coming.{ruled}
+use Rattle.promises.proofs.steering.Replies.{number-tells}
 use Rattle.promises.proofs.steering.Saying.{call-says}
 use Rattle.promises.proofs.steering.Standing.{open-clear, stands-once}
 
@@ -46,23 +47,23 @@ said-of-absent c [] a p = refl
 said-of-absent c (x ∷ h) a p = rw p refl
 
 -- A way that is answered is open.
-west-open : (s : State) (a : ℕ) → steered s a ≡ West → Open 0 (westRequest s) (s .stations) (hopOf 0 a (s .stations))
+west-open : (s : State) (a : ℕ) → number (steered s a) ≡ 0 → Open 0 (westRequest s) (s .stations) (hopOf 0 a (s .stations))
 unfolding steered
 west-open s a q =
-    let (x, p) = west-usable (westRequest s) (eastRequest s) (s .stations) a q in
+    let (x, p) = west-usable (westRequest s) (eastRequest s) (s .stations) a (number-tells (steered s a) West q) in
     way-open 0 (westRequest s) (s .stations) (hopOf 0 a (s .stations)) x p
 
-east-open : (s : State) (a : ℕ) → steered s a ≡ East → Open 1 (eastRequest s) (s .stations) (hopOf 1 a (s .stations))
+east-open : (s : State) (a : ℕ) → number (steered s a) ≡ 1 → Open 1 (eastRequest s) (s .stations) (hopOf 1 a (s .stations))
 unfolding steered
 east-open s a q =
-    let (x, p) = east-usable (westRequest s) (eastRequest s) (s .stations) a q in
+    let (x, p) = east-usable (westRequest s) (eastRequest s) (s .stations) a (number-tells (steered s a) East q) in
     way-open 1 (eastRequest s) (s .stations) (hopOf 1 a (s .stations)) x p
 
--- West, or east, is answered: the station has a hop there.
-pub west-hop : (c : Choice) (h : List Call) (a : ℕ) → steered (after (started c) h) a ≡ West → 1 ≤ hopOf 0 a (after (started c) h .stations)
+-- 0, or 1, is answered: the station has a hop there.
+pub west-hop : (c : Choice) (h : List Call) (a : ℕ) → number (steered (after (started c) h) a) ≡ 0 → 1 ≤ hopOf 0 a (after (started c) h .stations)
 west-hop c h a q = west-open (after (started c) h) a q .some-hop
 
-pub east-hop : (c : Choice) (h : List Call) (a : ℕ) → steered (after (started c) h) a ≡ East → 1 ≤ hopOf 1 a (after (started c) h .stations)
+pub east-hop : (c : Choice) (h : List Call) (a : ℕ) → number (steered (after (started c) h) a) ≡ 1 → 1 ≤ hopOf 1 a (after (started c) h .stations)
 east-hop c h a q = east-open (after (started c) h) a q .some-hop
 
 -- For either ringlet: each span of an open way is clear.
@@ -74,13 +75,13 @@ module _ (c : Choice) (t : TicksKept (c .ticks)) (h : List Call) (b : AllBytes h
   up : Ascending (after (started c) h .stations)
   up = after-kept c t h b .stations .ascending
 
-  -- West is answered: neither end of any span up to the station has last requested SF or FS.
-  pub west-clear : (a : ℕ) → steered (after (started c) h) a ≡ West → (j : ℕ) → j < hopOf 0 a (after (started c) h .stations)
+  -- 0, west, is answered: neither end of any span up to the station has last requested SF or FS.
+  pub west-clear : (a : ℕ) → number (steered (after (started c) h) a) ≡ 0 → (j : ℕ) → j < hopOf 0 a (after (started c) h .stations)
       → Clear (said (started c) h) 0 (westRequest (after (started c) h)) (after (started c) h .stations) j
   west-clear a q = clear c h up 0 _ _ (west-open (after (started c) h) a q)
 
-  -- East is answered: likewise.
-  pub east-clear : (a : ℕ) → steered (after (started c) h) a ≡ East → (j : ℕ) → j < hopOf 1 a (after (started c) h .stations)
+  -- 1, east, is answered: likewise.
+  pub east-clear : (a : ℕ) → number (steered (after (started c) h) a) ≡ 1 → (j : ℕ) → j < hopOf 1 a (after (started c) h .stations)
       → Clear (said (started c) h) 1 (eastRequest (after (started c) h)) (after (started c) h .stations) j
   east-clear a q = clear c h up 1 _ _ (east-open (after (started c) h) a q)
 
@@ -96,16 +97,16 @@ module _ (b : List ℕ) (st : Started) (begun : Begun b st) (h : List Made) (met
   abbrev s : State
   s = after (startOf b) (callsOf h)
 
-  answer-is : x ≡ steered s a
-  answer-is = asks ∙ ruled b st begun h met .ways a
+  answer-is : number x ≡ number (steered s a)
+  answer-is = ap number asks ∙ ruled b st begun h met .ways a
 
   rising : Ascending (s .stations)
   rising = subst Ascending (ruled b st begun h met .stations) (ruled b st begun h met .kept .state .stations .ascending)
 
-  pub node-west-clear : x ≡ West → (j : ℕ) → j < hopOf 0 a (s .stations) → Clear (said (startOf b) (callsOf h)) 0 (westRequest s) (s .stations) j
+  pub node-west-clear : number x ≡ 0 → (j : ℕ) → j < hopOf 0 a (s .stations) → Clear (said (startOf b) (callsOf h)) 0 (westRequest s) (s .stations) j
   unfolding startOf
   node-west-clear q = clear (choiceOf (settingsIn b .settings)) (callsOf h) rising 0 _ _ (west-open s a (sym answer-is ∙ q))
 
-  pub node-east-clear : x ≡ East → (j : ℕ) → j < hopOf 1 a (s .stations) → Clear (said (startOf b) (callsOf h)) 1 (eastRequest s) (s .stations) j
+  pub node-east-clear : number x ≡ 1 → (j : ℕ) → j < hopOf 1 a (s .stations) → Clear (said (startOf b) (callsOf h)) 1 (eastRequest s) (s .stations) j
   unfolding startOf
   node-east-clear q = clear (choiceOf (settingsIn b .settings)) (callsOf h) rising 1 _ _ (east-open s a (sym answer-is ∙ q))

@@ -17,7 +17,6 @@ use Rattle.blocks.specs.Types.{knows, good, among}
 use Rattle.blocks.specs.Entries.{cut}
 use Rattle.blocks.specs.Meaning.{known, has, sound, behind, value}
 use Rattle.ways.specs.declared.choice.Reply.{Reply}
-use Rattle.ways.specs.declared.choice.Reply.the-variants.{West}
 use Rattle.ways.specs.Choice.{number}
 use Rattle.controller.specs.declared.node.Started.{Started}
 use Rattle.controller.specs.declared.ask.Shown.{Shown}
@@ -77,9 +76,8 @@ refuse-all st m d refuses = false≢true (sym (ap refusal (drill-answer d .resul
 
 -- Always west: 2.
 pub always-west : (st : Started) (h : List Made) → Drilled (P12 .start) (P12 .records) st h
-    → (r : Reply) → r ≡ steered (stateOf (nodeAfter st h)) (station 3) → r ≡ West → ⊥
+    → (r : Reply) → r ≡ steered (stateOf (nodeAfter st h)) (station 3) → number r ≡ 0 → ⊥
 always-west st h d r c west =
-    let said : number r ≡ 0 = ap number west in
     let east : number r ≡ 1 = ap number (c ∙ ap (λ (s : State). steered s (station 3)) (drill-state d)) ∙ due .east in
     omega arith
 
