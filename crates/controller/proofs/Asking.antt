@@ -3,7 +3,7 @@ use Prim.Native.Nat.{ℕ, _≤_, _^_}
 use mathlib.Core.Path.{_≡_, refl, sym, _∙_, ap}
 use mathlib.Core.Bool.{true, false, true≢false}
 use mathlib.Core.List.{List, [], _∷_}
-use mathlib.Core.Logic.{_⊎_, ⊎-elim}
+use mathlib.Core.Logic.{⊎-elim}
 use mathlib.Core.Option.{none}
 use native.Mathlib.Omega.{arith}
 use borrow.Author.Tests.{ne-eqb}
@@ -12,15 +12,11 @@ use Rattle.stations.specs.declared.station.Station.{Station}
 use Rattle.stations.specs.Stations.{present, attributesOf}
 use Rattle.stations.specs.Table.{Each}
 use Rattle.stations.specs.Kept.{StationKept}
-use Rattle.ways.specs.Choice.{wayTo}
-use Rattle.ways.specs.declared.choice.Reply.the-variants.{Unknown}
+use Rattle.ways.specs.Choice.{wayTo, number}
 use Rattle.controller.specs.State.{State}
 use Rattle.controller.specs.Node.{steered, shown, asked}
 use Rattle.controller.specs.Kept.{StateKept}
-
--- The address of no station that is kept.
-abbrev pub Strange : ℕ → ℕ → Type 0
-Strange own a = (a ≡ own) ⊎ ((oddFirst a ≡ true) ⊎ (2 ^ 48 ≤ a))
+use Rattle.controller.specs.Strange.{Strange}
 
 module _ (own forget : ℕ) (K : List ℕ) (a : ℕ) (strange : Strange own a) where
   not-its : (s : Station) → StationKept own forget K s → s .address ≡ a → ⊥
@@ -41,7 +37,7 @@ module _ (s : State) (k : StateKept s) (a : ℕ) (strange : Strange (s .choice .
   missing : (present a (s .stations) ≡ false) × (attributesOf a (s .stations) ≡ none)
   missing = nowhere (s .choice .address) (s .choice .ticks .forget) (s .choice .known) a strange (s .stations) (k .stations .each)
 
-  pub strange-way : steered s a ≡ Unknown
+  pub strange-way : number (steered s a) ≡ 3
   unfolding steered wayTo
   strange-way = rw (missing .0)
 

@@ -10,3 +10,4 @@ pub mod Possible
 pub mod Contracts
 pub mod Unique
 pub mod Drilled
+pub mod Quiet

@@ -4,3 +4,5 @@ pub mod Hearing
 pub mod Table
 pub mod Kept
 pub mod Steps
+pub mod Copies
+pub mod Examples

@@ -2,7 +2,7 @@
 use Prim.Native.Nat.{ℕ}
 use mathlib.Core.Path.{_≡_, refl, sym, _∙_, ap}
 use mathlib.Core.Bool.{Bool, true, false, cond}
-use mathlib.Core.List.{List, []}
+use mathlib.Core.List.{List}
 use lib.Dec.{eqb}
 use borrow.Author.Tests.{eq-eqb}
 use Rattle.settings.specs.declared.choice.Ticks.{Ticks}
@@ -28,8 +28,9 @@ use Rattle.controller.specs.declared.reading.Reading.the-variants.{Block}
 use Rattle.controller.specs.State.{Spans, State}
 use Rattle.controller.specs.Handling.{acted, gives, taking, learning, judged}
 use Rattle.controller.specs.Closing.{settled, purgedIf, swept, pacing, reportOf}
-use Rattle.controller.specs.Record.{Outcome, unlessRefused, closed, outcomeOf}
+use Rattle.controller.specs.Record.{unlessRefused, closed, outcomeOf}
 use Rattle.controller.specs.Kept.{StateKept}
+use Rattle.promises.specs.Quiet.{withStations}
 
 -- WTR changes only where the automatic request does.
 waited-still : (t : Ticks) (s : Span) → waited t (automatic t s) s ≡ s
@@ -78,14 +79,6 @@ paced-still : (fast slow west east : ℕ) (p : Pacer) → PacerKept fast slow we
     → paced fast slow false west east p ≡ record { pacer = p; wrote = false }
 unfolding paced
 paced-still fast slow west east p k = rw (eq-eqb (p .west) west (k .west-is), eq-eqb (p .east) east (k .east-is))
-
--- The outcome that changes the stations alone.
-abbrev pub withStations : State → Placed → Outcome
-withStations s j = record {
-  result = j .result;
-  state = record { choice = s .choice; spans = s .spans; stations = j .stations; pacer = s .pacer };
-  report = [];
-}
 
 module _ (s : State) (k : StateKept s) where
   closed-still : (j : Placed) → EachPlaced (j .stations) → (down (s .choice .ticks) (s .spans .west) ≡ true → Unheld 0 (j .stations))

@@ -36,12 +36,13 @@ use Rattle.controller.proofs.Holding.{outcome-choice}
 use Rattle.controller.proofs.Nodes.{state-of-node}
 use Rattle.promises.specs.History.{after, startOf}
 use Rattle.promises.specs.Examples.{report, settings, station}
+use Rattle.promises.specs.Quiet.{withStations}
 use Rattle.promises.specs.Possible.{areBytes, allBytes}
 use Rattle.promises.specs.Drilled.{callsFor}
-use Rattle.promises.specs.Written.{attributeRecord, values}
+use Rattle.promises.specs.Written.{attributeRecord, values, joined}
 use Rattle.promises.proofs.demand2.Possible.{are-bytes, all-bytes}
 use Rattle.promises.proofs.demand2.AfterKept.{after-kept}
-use Rattle.promises.proofs.roundtrip.Quiet.{withStations, block-closes-nothing}
+use Rattle.promises.proofs.roundtrip.Quiet.{block-closes-nothing}
 use Rattle.promises.proofs.roundtrip.AttributeRecords.{attributes-read, record-bytes, written-bytes}
 use Rattle.promises.proofs.roundtrip.Taking.{carried, of-present, given-back, learning-values}
 
@@ -131,10 +132,7 @@ module _ (n : Node) (k : Kept n) (w0 w1 b0 b1 span a : ℕ) (side : span ≤ 1)
       values-answered (take (w .length) after) (omega (arith, length-take (w .length) after, few-written level w0 w1 b0 b1 before after w c))
       (buffer-reads-back level w0 w1 b0 b1 before after w c done)
 
--- A node of a level that has heard a report of station 2 meets what is asked of it; both levels, by computation.
-abbrev pub joined : ℕ → State
-joined level = after (startOf (settings level 0)) (callsFor (report 0 255 2 1 0 0 ∷ []))
-
+-- Such a node meets what is asked of it; both levels, by computation.
 joined-kept : (level : ℕ) → areBytes (settings level 0) ≡ true → StateKept (joined level)
 unfolding startOf allBytes
 joined-kept level bytes =

@@ -103,10 +103,12 @@ module _ (b : List ℕ) (st : Started) (begun : Begun b st) (h : List Made) (met
   rising : Ascending (s .stations)
   rising = subst Ascending (ruled b st begun h met .stations) (ruled b st begun h met .kept .state .stations .ascending)
 
-  pub node-west-clear : number x ≡ 0 → (j : ℕ) → j < hopOf 0 a (s .stations) → Clear (said (startOf b) (callsOf h)) 0 (westRequest s) (s .stations) j
+  pub node-west-clear : (let s = after (startOf b) (callsOf h) in
+      number x ≡ 0 → (j : ℕ) → j < hopOf 0 a (s .stations) → Clear (said (startOf b) (callsOf h)) 0 (westRequest s) (s .stations) j)
   unfolding startOf
   node-west-clear q = clear (choiceOf (settingsIn b .settings)) (callsOf h) rising 0 _ _ (west-open s a (sym answer-is ∙ q))
 
-  pub node-east-clear : number x ≡ 1 → (j : ℕ) → j < hopOf 1 a (s .stations) → Clear (said (startOf b) (callsOf h)) 1 (eastRequest s) (s .stations) j
+  pub node-east-clear : (let s = after (startOf b) (callsOf h) in
+      number x ≡ 1 → (j : ℕ) → j < hopOf 1 a (s .stations) → Clear (said (startOf b) (callsOf h)) 1 (eastRequest s) (s .stations) j)
   unfolding startOf
   node-east-clear q = clear (choiceOf (settingsIn b .settings)) (callsOf h) rising 1 _ _ (east-open s a (sym answer-is ∙ q))
