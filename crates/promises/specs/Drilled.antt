@@ -4,6 +4,7 @@ use mathlib.Core.Path.{_≡_}
 use mathlib.Core.List.{List, reverse, map}
 use Rattle.controller.specs.declared.node.Started.{Started}
 use Rattle.controller.specs.Promise.{Begun}
+use Rattle.controller.specs.Node.{startedWith}
 use Rattle.promises.specs.History.{Call, Made, callsOf, Met}
 
 -- The calls of the records, the latest first.
@@ -15,3 +16,7 @@ pub record Drilled (start : List ℕ) (l : List (List ℕ)) (st : Started) (h : 
   pub begun : Begun start st
   pub calls : callsOf h ≡ callsFor l
   pub met : Met st h
+
+-- A program answers as the rules do, and its calls are these.
+abbrev pub Runs : List ℕ → List (List ℕ) → Type 0
+Runs start l = (h : List Made) × Drilled start l (startedWith start) h

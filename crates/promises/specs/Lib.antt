@@ -11,3 +11,6 @@ pub mod Contracts
 pub mod Unique
 pub mod Drilled
 pub mod Quiet
+pub mod Cases
+pub mod LevelDrills
+pub mod SteeringDrills

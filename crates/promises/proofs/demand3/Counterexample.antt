@@ -11,31 +11,11 @@ use Rattle.settings.specs.Reading.{fieldsOf, fullIn, settingsIn}
 use Rattle.blocks.specs.Types.{knows, good, among}
 use Rattle.blocks.specs.Entries.{cut}
 use Rattle.blocks.specs.Meaning.{known, has, sound, behind, value}
-use Rattle.controller.specs.State.{State}
 use Rattle.controller.specs.Node.{asked}
-use Rattle.promises.specs.History.{Call, after, answered, startOf}
+use Rattle.promises.specs.History.{after, answered, startOf}
 use Rattle.promises.specs.Levels.{NoEight, latest, noBlocks, valueShown, Levelled}
-use Rattle.promises.specs.Examples.{settings, station, report, attributes, shownAs}
-
-abbrev call : List ℕ → Call
-call b = record { bytes = b; room = 7 }
-
--- Level 1 and level 2, else equal.
-abbrev small : State
-small = startOf (settings 1 0)
-
-abbrev large : State
-large = startOf (settings 2 0)
-
--- Type 2, optional and of one byte, then P7's weights: to level 1 an entry to skip, to level 2 one of a wrong length.
-abbrev shortTwo : List ℕ
-shortTwo = 0 ∷ 2 ∷ 0 ∷ 1 ∷ 9 ∷ 0x80 ∷ 1 ∷ 0 ∷ 2 ∷ 3 ∷ 5 ∷ []
-
-abbrev joined : List Call
-joined = call (report 0 255 2 1 0 0) ∷ []
-
-abbrev eights : List Call
-eights = call (attributes 2 shortTwo) ∷ joined
+use Rattle.promises.specs.Examples.{station, attributes, shownAs}
+use Rattle.promises.specs.LevelDrills.{call, small, large, shortTwo, joined, eights}
 
 pub eight-answered : (answered small joined (call (attributes 2 shortTwo)) .result ≡ 0) × (answered large joined (call (attributes 2 shortTwo)) .result ≡ 8)
 unfolding after startOf settingsIn headOf broken fullIn fieldsOf inRange addressAt ticksOf cut known has sound behind value knows good among

@@ -1,11 +1,10 @@
 -- Histories that meet the hypotheses of demand 3, by computation: a block that the smaller node sets aside and the larger takes, one that both take, and a station
 -- that leaves and comes again. Assumes nothing.
-use Prim.Native.Nat.{ℕ, _≤_}
+use Prim.Native.Nat.{_≤_}
 use mathlib.Core.Path.{_≡_, refl}
-use mathlib.Core.List.{List, [], _∷_}
+use mathlib.Core.List.{[], _∷_}
 use mathlib.Core.Option.{none, some}
 use native.Mathlib.Omega.{arith}
-use lib.ListN.{replicate}
 use Rattle.wire.specs.Fields.{addressAt}
 use Rattle.wire.specs.Head.{broken, headOf}
 use Rattle.settings.specs.Ticks.{ticksOf}
@@ -14,28 +13,17 @@ use Rattle.settings.specs.Reading.{fieldsOf, fullIn, settingsIn}
 use Rattle.blocks.specs.Types.{knows, good, among}
 use Rattle.blocks.specs.Entries.{cut}
 use Rattle.blocks.specs.Meaning.{known, has, sound, behind, value}
-use Rattle.controller.specs.State.{State}
 use Rattle.stations.specs.Table.{blank, tableOf}
-use Rattle.controller.specs.declared.node.Started.{Started}
 use Rattle.controller.specs.Promise.{Begun}
 use Rattle.controller.specs.Node.{startedWith, asked}
-use Rattle.promises.specs.History.{Call, after, answered, startOf, callsOf, Met}
+use Rattle.promises.specs.History.{after, answered, startOf, callsOf, Met}
 use Rattle.promises.specs.Levels.{NoEight, latest, noBlocks, saysBehind, withLevel, NoEightMade}
-use Rattle.promises.specs.Possible.{Handed, AllHanded, made, areBytes}
+use Rattle.promises.specs.Possible.{AllHanded, made, areBytes}
+use Rattle.promises.specs.LevelDrills.{call, small, large, typeTwo, joined, asides, typeOne, takes, returns, handed, smallNode, largeNode}
 use Rattle.promises.proofs.demand2.Possible.{begins, made-met, calls-made, are-bytes}
-use Rattle.promises.specs.Examples.{settings, station, link, report, attributes, shownAs}
-
--- The calls, the latest first, each with room for a report.
-abbrev call : List ℕ → Call
-call b = record { bytes = b; room = 7 }
+use Rattle.promises.specs.Examples.{settings, station, report, attributes, shownAs}
 
 -- Level 1 and level 2, else equal.
-abbrev small : State
-small = startOf (settings 1 0)
-
-abbrev large : State
-large = startOf (settings 2 0)
-
 pub equal : settingsIn (settings 1 0) .settings ≡ withLevel 1 (settingsIn (settings 2 0) .settings)
 unfolding settingsIn headOf broken fullIn fieldsOf inRange addressAt
 equal = refl
@@ -44,19 +32,12 @@ pub lower : 1 ≤ settingsIn (settings 2 0) .settings .level
 unfolding settingsIn headOf broken fullIn fieldsOf inRange addressAt
 lower = omega arith
 
--- P9's block: type 2 alone, mandatory.
-abbrev typeTwo : List ℕ
-typeTwo = 0x80 ∷ 2 ∷ 0 ∷ 4 ∷ 3 ∷ 0xe8 ∷ 0 ∷ 0 ∷ []
-
-abbrev asides : List Call
-asides = call (attributes 2 typeTwo) ∷ call (report 0 255 2 1 0 0) ∷ []
-
 pub aside-no-eight : NoEight large asides
 unfolding NoEight after startOf settingsIn headOf broken fullIn fieldsOf inRange addressAt ticksOf cut known has sound behind value knows good among
 aside-no-eight = (λ e. omega arith, (λ e. omega arith, tt))
 
-pub aside-and-taken : (answered small (call (report 0 255 2 1 0 0) ∷ []) (call (attributes 2 typeTwo)) .result ≡ 24)
-    × (answered large (call (report 0 255 2 1 0 0) ∷ []) (call (attributes 2 typeTwo)) .result ≡ 0)
+pub aside-and-taken : (answered small joined (call (attributes 2 typeTwo)) .result ≡ 24)
+    × (answered large joined (call (attributes 2 typeTwo)) .result ≡ 0)
 unfolding after startOf settingsIn headOf broken fullIn fieldsOf inRange addressAt ticksOf cut known has sound behind value knows good among
 aside-and-taken = (refl, refl)
 
@@ -65,13 +46,6 @@ pub aside-shown : (asked (after small asides) (station 2) ≡ saysBehind 2)
     × (latest noBlocks large asides (station 2) ≡ some typeTwo)
 unfolding after asked latest startOf settingsIn headOf broken fullIn fieldsOf inRange addressAt ticksOf cut known has sound behind value knows good among
 aside-shown = (refl, refl, refl)
-
--- P7's block: type 1, which both know.
-abbrev typeOne : List ℕ
-typeOne = 0x80 ∷ 1 ∷ 0 ∷ 2 ∷ 3 ∷ 5 ∷ []
-
-abbrev takes : List Call
-takes = call (attributes 2 typeOne) ∷ asides
 
 pub taken-no-eight : NoEight large takes
 unfolding NoEight after startOf settingsIn headOf broken fullIn fieldsOf inRange addressAt ticksOf cut known has sound behind value knows good among
@@ -83,10 +57,6 @@ pub taken-shown : (shownAs (asked (after small takes) (station 2)) ≡ 0 ∷ 0 �
 unfolding after asked latest startOf settingsIn headOf broken fullIn fieldsOf inRange addressAt ticksOf cut known has sound behind value knows good among
 taken-shown = (refl, refl, refl)
 
--- The link fails and is good again, the station is heard once more: it has no block since it joined, and nobody is behind.
-abbrev returns : List Call
-returns = call (report 0 255 2 2 0 0) ∷ call (link 0 0) ∷ call (link 0 2) ∷ asides
-
 pub returns-no-eight : NoEight large returns
 unfolding NoEight after startOf settingsIn headOf broken fullIn fieldsOf inRange addressAt ticksOf cut known has sound behind value knows good among
 returns-no-eight = (λ e. omega arith, (λ e. omega arith, (λ e. omega arith, aside-no-eight)))
@@ -96,18 +66,6 @@ unfolding after asked latest startOf settingsIn headOf broken fullIn fieldsOf in
 returns-shown = (refl, refl)
 
 -- The same at nodes of the program, from the bytes of their settings: every hypothesis of the theorems on nodes is met.
-abbrev room : List ℕ
-room = replicate 7 0
-
-abbrev handed : List Handed
-handed = record { bytes = attributes 2 typeTwo; old = room } ∷ record { bytes = report 0 255 2 1 0 0; old = room } ∷ []
-
-abbrev smallNode : Started
-smallNode = startedWith (settings 1 0)
-
-abbrev largeNode : Started
-largeNode = startedWith (settings 2 0)
-
 pub begun-both : Begun (settings 1 0) smallNode × Begun (settings 2 0) largeNode
 unfolding areBytes
 begun-both = (begins (settings 1 0) (are-bytes (settings 1 0) refl), begins (settings 2 0) (are-bytes (settings 2 0) refl))

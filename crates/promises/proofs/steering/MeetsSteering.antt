@@ -1,8 +1,6 @@
 -- What Steering supposes is met, by computation: settings, histories of bytes, ways that are answered. And what `said` gives on histories. Assumes nothing.
-use Prim.Native.Nat.{ℕ}
 use mathlib.Core.Path.{_≡_, refl}
 use mathlib.Core.Bool.{false}
-use mathlib.Core.List.{List, [], _∷_}
 use mathlib.Core.Option.{none, some}
 use native.Mathlib.Omega.{arith}
 use Rattle.wire.specs.Fields.{addressAt}
@@ -14,35 +12,21 @@ use Rattle.settings.specs.Reading.{fieldsOf, fullIn, settingsIn}
 use Rattle.spans.specs.Codes.{IDLE, SD, SF}
 use Rattle.blocks.specs.Types.{knows}
 use Rattle.stations.specs.Stations.{present}
-use Rattle.ways.specs.Walk.{Ends}
 use Rattle.ways.specs.Choice.{number, hopOf}
-use Rattle.controller.specs.State.{Choice, State, started}
+use Rattle.controller.specs.State.{started}
 use Rattle.controller.specs.Node.{choiceOf, westRequest, eastRequest, steered}
 use Rattle.promises.specs.History.{after, AllBytes}
 use Rattle.promises.specs.Steering.{said, StandsAt, Clear}
 use Rattle.promises.specs.Drilled.{callsFor}
-use Rattle.promises.specs.Examples.{station, link, report, settings, ring}
+use Rattle.promises.specs.Examples.{station, settings, ring}
 use Rattle.promises.specs.Possible.{allBytes}
+use Rattle.promises.specs.SteeringDrills.{one, state, ends, and-then, purging, rejoining, westward}
 use Rattle.promises.proofs.demand2.Possible.{all-bytes}
 use Rattle.promises.proofs.steering.Steering.{west-clear, east-clear}
-
--- Node 1 of the examples, in ticks.
-abbrev one : Choice
-one = record {
-  address = station 1;
-  known = 1 ∷ 2 ∷ [];
-  ticks = record { wtr = 0; holdoff = 0; keepalive = 50; fast = 10; slow = 100; forget = 1000 };
-}
 
 pub one-is : choiceOf (settingsIn (settings 2 0) .settings) ≡ one
 unfolding settingsIn headOf broken fullIn fieldsOf inRange addressAt ticksOf knows
 one-is = refl
-
-abbrev state : List (List ℕ) → State
-state l = after (started one) (callsFor l)
-
-abbrev ends : ℕ → ℕ → Ends
-ends west east = record { west = west; east = east }
 
 pub ticks-met : TicksKept (one .ticks)
 ticks-met = record {
@@ -111,10 +95,6 @@ pub said-5 : said (started one) (callsFor (ring SD)) (station 5) ≡ none
 unfolding started said addressAt
 said-5 = refl
 
--- Station 2 reports SD in the west with the sequence 1, and then SF in the east with another.
-abbrev and-then : ℕ → List (List ℕ)
-and-then sequence = report 0 255 2 1 SD IDLE ∷ report 0 255 2 sequence IDLE SF ∷ []
-
 -- A copy says nothing, whatever its requests; nor does an old report; a newer one does.
 pub said-copy : said (started one) (callsFor (and-then 1)) (station 2) ≡ some (ends SD IDLE)
 unfolding started said addressAt
@@ -128,25 +108,13 @@ pub said-newer : said (started one) (callsFor (and-then 2)) (station 2) ≡ some
 unfolding started said addressAt
 said-newer = refl
 
--- West fails: the purge takes station 2 out of the table, and nothing is known of it.
-abbrev purging : List (List ℕ)
-purging = report 0 255 2 1 SD IDLE ∷ link 0 2 ∷ []
-
 pub said-purged : said (started one) (callsFor purging) (station 2) ≡ none
 unfolding started said addressAt
 said-purged = refl
 
--- West is good again: a report is then news, though it has the sequence of before.
-abbrev rejoining : List (List ℕ)
-rejoining = report 0 255 2 1 SD IDLE ∷ link 0 2 ∷ link 0 0 ∷ report 0 255 2 1 IDLE SF ∷ []
-
 pub said-rejoined : said (started one) (callsFor rejoining) (station 2) ≡ some (ends IDLE SF)
 unfolding started said addressAt
 said-rejoined = refl
-
--- Stations 2 and 3 are heard in the west alone. There is a way to 3 while it is idle, and none once it requests SF at its end of the second span.
-abbrev westward : ℕ → List (List ℕ)
-westward requested = report 0 255 2 1 IDLE IDLE ∷ report 0 254 3 1 IDLE requested ∷ []
 
 pub far-end-idle : number (steered (state (westward IDLE)) (station 3)) ≡ 0
 unfolding started after steered addressAt

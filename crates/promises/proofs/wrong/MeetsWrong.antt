@@ -3,17 +3,11 @@ use mathlib.Core.Path.{_≡_, refl}
 use mathlib.Core.Bool.{true}
 use mathlib.Core.List.{List, [], _∷_}
 use Prim.Native.Nat.{ℕ}
-use Rattle.controller.specs.Node.{startedWith}
-use Rattle.promises.specs.History.{Made}
 use Rattle.promises.specs.Examples.{tick, link, report, settings, P7, P10, P11, P12}
 use Rattle.promises.specs.Possible.{areBytes, allBytes}
-use Rattle.promises.specs.Drilled.{callsFor, Drilled}
+use Rattle.promises.specs.Drilled.{callsFor, Runs}
 use Rattle.promises.proofs.demand2.Possible.{are-bytes, all-bytes}
 use Rattle.promises.proofs.demand2.Drilling.{drill-runs}
-
--- A program answers as the rules do, and its calls are these.
-abbrev pub Runs : List ℕ → List (List ℕ) → Type 0
-Runs start l = (h : List Made) × Drilled start l (startedWith start) h
 
 runs : (start : List ℕ) (l : List (List ℕ)) → areBytes start ≡ true → allBytes (callsFor l) ≡ true → Runs start l
 runs start l bytes all = drill-runs start l (are-bytes start bytes) (all-bytes (callsFor l) all)
