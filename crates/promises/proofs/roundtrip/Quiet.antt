@@ -7,7 +7,7 @@ use lib.Dec.{eqb}
 use borrow.Author.Tests.{eq-eqb}
 use Rattle.settings.specs.declared.choice.Ticks.{Ticks}
 use Rattle.spans.specs.declared.span.Span.{Span}
-use Rattle.spans.specs.Requests.{automatic, down, withWtr, waited, request}
+use Rattle.spans.specs.Requests.{down, request}
 use Rattle.pacer.specs.declared.steps.Pacer.{Pacer}
 use Rattle.pacer.specs.Pace.{paced}
 use Rattle.pacer.specs.Kept.{PacerKept}
@@ -31,19 +31,7 @@ use Rattle.controller.specs.Closing.{settled, purgedIf, swept, pacing, reportOf
 use Rattle.controller.specs.Record.{unlessRefused, closed, outcomeOf}
 use Rattle.controller.specs.Kept.{StateKept}
 use Rattle.promises.specs.Quiet.{withStations}
-
--- WTR changes only where the automatic request does.
-waited-still : (t : Ticks) (s : Span) → waited t (automatic t s) s ≡ s
-unfolding waited
-waited-still t s = go (eqb (automatic t s) 0)
-  where
-    go : (b : Bool) → cond b (cond b s (withWtr 0 s)) (cond b (withWtr (t .wtr) s) s) ≡ s
-    go true = refl
-    go false = refl
-
-settled-still : (t : Ticks) (x : Spans) → settled t x x ≡ x
-unfolding settled
-settled-still t x = λ i. record { west = waited-still t (x .west) i; east = waited-still t (x .east) i }
+use Rattle.promises.proofs.spans.OneRecord.{settled-same}
 
 -- Every station has a hop.
 abbrev pub EachPlaced : List Station → Type 0
@@ -86,7 +74,7 @@ module _ (s : State) (k : StateKept s) where
   unfolding closed pacing
   closed-still j all west east =
       let t : Ticks = s .choice .ticks in
-      let y : settled t (s .spans) (s .spans) ≡ s .spans = settled-still t (s .spans) in
+      let y : settled t (s .spans) (s .spans) ≡ s .spans = settled-same t (s .spans) in
       let l : swept t (settled t (s .spans) (s .spans)) (j .stations) ≡ j .stations =
       ap (λ (z : Spans). swept t z (j .stations)) y ∙ swept-still (j .stations) all t (s .spans) west east in
       let d : pacing t false (settled t (s .spans) (s .spans)) (s .pacer) ≡ record { pacer = s .pacer; wrote = false } =

@@ -22,7 +22,7 @@ use Rattle.controller.specs.Closing.{settled}
 use Rattle.controller.specs.Record.{outcomeOf, outcome}
 use Rattle.promises.specs.History.{Call, after}
 use Rattle.promises.specs.Spans.{readAs, isOperator, operatorTaken, unasked, spanAfter, askedOn, Swept, SameBeneath}
-use Rattle.promises.proofs.demand3.Following.{choice-after}
+use Rattle.promises.proofs.demand2.AfterKept.{choice-after}
 use Rattle.promises.proofs.spans.Readings.{Sided, sided, same-span}
 use Rattle.promises.proofs.spans.OneRecord.{spans-alone, spans-call, span-call, touched, cabled-touched, ticked-both}
 use Rattle.promises.proofs.spans.Purging.{swept-none, after-swept}

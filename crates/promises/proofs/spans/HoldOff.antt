@@ -21,7 +21,7 @@ use Rattle.controller.specs.Handling.{acted}
 use Rattle.controller.specs.Closing.{isTick}
 use Rattle.promises.specs.History.{Call, after}
 use Rattle.promises.specs.Spans.{readAs, isLink, ticksTaken, linkTaken, spanAfter, requestOn, automaticOn}
-use Rattle.promises.proofs.demand3.Following.{choice-after}
+use Rattle.promises.proofs.demand2.AfterKept.{choice-after}
 use Rattle.promises.proofs.spans.Readings.{Sided, sided, same-span}
 use Rattle.promises.proofs.spans.OneRecord.{span-call, touched, found-back, cabled-touched, ticked-both}
 

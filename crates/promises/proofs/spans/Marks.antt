@@ -35,7 +35,8 @@ use Rattle.controller.proofs.Nodes.{refused-same}
 use Rattle.controller.proofs.Records.{over-none}
 use Rattle.promises.specs.Marks.{markedOn, markAfter, HandlerLeaves, OnlyMark}
 use Rattle.promises.proofs.demand1.Results.{given, result-of, recorded-result}
-use Rattle.promises.proofs.roundtrip.Quiet.{withStations, block-closes-nothing}
+use Rattle.promises.specs.Quiet.{withStations}
+use Rattle.promises.proofs.roundtrip.Quiet.{block-closes-nothing}
 use Rattle.promises.proofs.spans.Readings.{Sided, sided}
 
 -- (a), told as a change of the mark alone.

@@ -27,7 +27,7 @@ use Rattle.controller.specs.Steps.{leavesTable}
 use Rattle.controller.specs.Record.{Outcome, refusal, closed, unlessRefused, outcomeOf, outcome}
 use Rattle.promises.specs.History.{Call, after}
 use Rattle.promises.specs.Spans.{readAs, spanAfter}
-use Rattle.promises.proofs.demand3.Following.{choice-after}
+use Rattle.promises.proofs.demand2.AfterKept.{choice-after}
 
 pub settled-same : (t : Ticks) (x : Spans) → settled t x x ≡ x
 unfolding settled

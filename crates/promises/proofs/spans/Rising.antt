@@ -21,8 +21,7 @@ use Rattle.controller.specs.Handling.{acted}
 use Rattle.controller.specs.Kept.{StateKept}
 use Rattle.promises.specs.History.{Call, after, AllBytes}
 use Rattle.promises.specs.Spans.{readAs, spanAfter, automaticOn}
-use Rattle.promises.proofs.demand2.AfterKept.{after-kept}
-use Rattle.promises.proofs.demand3.Following.{choice-after}
+use Rattle.promises.proofs.demand2.AfterKept.{after-kept, choice-after}
 use Rattle.promises.proofs.spans.OneRecord.{span-call, ticked-both}
 
 pub span-fair : (n : ℕ) (s : State) → StateKept s → SpanFair (s .choice .ticks) (spanOf n (s .spans))

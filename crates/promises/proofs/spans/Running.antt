@@ -18,7 +18,7 @@ use Rattle.controller.specs.Handling.{acted}
 use Rattle.controller.specs.Closing.{isTick}
 use Rattle.promises.specs.History.{Call, after, Always}
 use Rattle.promises.specs.Spans.{readAs, ticksTaken, spanAfter, Unrequested}
-use Rattle.promises.proofs.demand3.Following.{choice-after}
+use Rattle.promises.proofs.demand2.AfterKept.{choice-after}
 use Rattle.promises.proofs.spans.OneRecord.{span-call, touched, cabled-touched, ticked-both}
 
 -- No handler but a tick's changes WTR.
