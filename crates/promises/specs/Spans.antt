@@ -4,6 +4,9 @@ use mathlib.Core.Path.{_≡_}
 use mathlib.Core.Bool.{Bool, false, cond, _||_}
 use mathlib.Core.List.{List, [], _∷_, _++_}
 use lib.Dec.{eqb, ltb}
+use Rattle.settings.specs.declared.choice.Ticks.{Ticks}
+use Rattle.settings.specs.Ticks.{ticksOf}
+use Rattle.settings.specs.Reading.{settingsIn}
 use Rattle.spans.specs.declared.span.Span.{Span}
 use Rattle.spans.specs.Codes.{none}
 use Rattle.spans.specs.Records.{asked}
@@ -13,7 +16,26 @@ use Rattle.controller.specs.declared.reading.Reading.the-variants.{Refused, Tic
 use Rattle.controller.specs.Reading.{reading}
 use Rattle.controller.specs.State.{Spans, State, spanOf, withSpan}
 use Rattle.controller.specs.Closing.{isTick, swept}
-use Rattle.promises.specs.History.{Call, after}
+use Rattle.controller.specs.declared.node.Started.{Started}
+use Rattle.controller.specs.Node.{stateOf}
+use Rattle.promises.specs.History.{Call, after, Made, nodeAfter}
+
+-- The own address, and the settings in ticks: of a state, and as the bytes of a settings record bring them.
+abbrev pub ownIn : State → ℕ
+ownIn s = s .choice .address
+
+abbrev pub ticksIn : State → Ticks
+ticksIn s = s .choice .ticks
+
+abbrev pub ownFrom : List ℕ → ℕ
+ownFrom b = settingsIn b .settings .address
+
+abbrev pub ticksFrom : List ℕ → Ticks
+ticksFrom b = ticksOf (settingsIn b .settings)
+
+-- What the rules see of the node after the calls h.
+abbrev pub seen : Started → List Made → State
+seen st h = stateOf (nodeAfter st h)
 
 -- What the record of a call says, or its refusal.
 abbrev pub readAs : ℕ → Call → Reading
@@ -95,9 +117,12 @@ requestOn n s = request (s .choice .ticks) (spanOf n (s .spans))
 abbrev pub automaticOn : ℕ → State → ℕ
 automaticOn n s = automatic (s .choice .ticks) (spanOf n (s .spans))
 
--- Span n has no automatic request after the calls h that follow g.
+-- Span n has no automatic request after the calls h that follow g; of the rules, and of a node.
 abbrev pub Unrequested : ℕ → State → List Call → List Call → Type 0
 Unrequested n s g h = automaticOn n (after s (h ++ g)) ≡ none
+
+abbrev pub UnrequestedOn : ℕ → Started → List Made → List Made → Type 0
+UnrequestedOn n st g h = automaticOn n (seen st (h ++ g)) ≡ none
 
 -- The spans with the operator request of span n replaced.
 abbrev pub askedOn : ℕ → ℕ → Spans → Spans

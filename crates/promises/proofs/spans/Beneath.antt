@@ -21,7 +21,7 @@ use Rattle.controller.specs.Handling.{acted}
 use Rattle.controller.specs.Closing.{settled}
 use Rattle.controller.specs.Record.{outcomeOf, outcome}
 use Rattle.promises.specs.History.{Call, after}
-use Rattle.promises.specs.Spans.{readAs, isOperator, operatorTaken, unasked, spanAfter, askedOn, Swept, SameBeneath}
+use Rattle.promises.specs.Spans.{ownIn, readAs, isOperator, operatorTaken, unasked, spanAfter, askedOn, Swept, SameBeneath}
 use Rattle.promises.proofs.demand2.AfterKept.{choice-after}
 use Rattle.promises.proofs.spans.Readings.{Sided, sided, same-span}
 use Rattle.promises.proofs.spans.OneRecord.{spans-alone, spans-call, span-call, touched, cabled-touched, ticked-both}
@@ -108,15 +108,12 @@ module _ (n : ℕ) where
       sym (bare-wtr (eqb n 0) (eqb m 0) (s .spans)) ∙ ap (λ (x : Spans). spanOf m x .wtr) (e .spans) ∙ bare-wtr (eqb n 0) (eqb m 0) (u .spans)
 
   module _ (s : State) (tidy : Swept s) where
-    abbrev own : ℕ
-    own = s .choice .address
-
     -- .. and one that is an operator record of the span.
-    operator-call : (h : List Call) (c : Call) → isOperator n (readAs own c) ≡ true → SameBeneath n (after s (c ∷ h)) (after s h)
+    operator-call : (h : List Call) (c : Call) → isOperator n (readAs (ownIn s) c) ≡ true → SameBeneath n (after s (c ∷ h)) (after s h)
     unfolding after outcome
     operator-call h c is =
         subst (λ (k : Choice). SameBeneath n (outcomeOf (readAs (k .address) c) (blockOf (c .bytes)) (after s h) .state) (after s h))
-        (sym (choice-after s h)) (go (readAs own c) is)
+        (sym (choice-after s h)) (go (readAs (ownIn s) c) is)
       where
         go : (r : Reading) → isOperator n r ≡ true → SameBeneath n (outcomeOf r (blockOf (c .bytes)) (after s h) .state) (after s h)
         go (Refused k) e = absurd (true≢false (sym e))
@@ -129,32 +126,32 @@ module _ (n : ℕ) where
         go (Block m a) e = absurd (true≢false (sym e))
 
     -- With the operator records of the span and without them.
-    unasked-same : (h : List Call) → SameBeneath n (after s h) (after s (unasked own n h))
+    unasked-same : (h : List Call) → SameBeneath n (after s h) (after s (unasked (ownIn s) n h))
     unfolding unasked after
     unasked-same [] = same-self s
-    unasked-same (c ∷ h) = go (isOperator n (readAs own c)) refl (unasked-same h)
+    unasked-same (c ∷ h) = go (isOperator n (readAs (ownIn s) c)) refl (unasked-same h)
       where
-        go : (b : Bool) → isOperator n (readAs own c) ≡ b → SameBeneath n (after s h) (after s (unasked own n h))
-            → SameBeneath n (after s (c ∷ h)) (after s (cond b (unasked own n h) (c ∷ unasked own n h)))
-        go true is rest = same-on (after s (c ∷ h)) (after s h) (after s (unasked own n h)) (operator-call h c is) rest
-        go false is rest = same-call (after s h) (after s (unasked own n h)) rest c
+        go : (b : Bool) → isOperator n (readAs (ownIn s) c) ≡ b → SameBeneath n (after s h) (after s (unasked (ownIn s) n h))
+            → SameBeneath n (after s (c ∷ h)) (after s (cond b (unasked (ownIn s) n h) (c ∷ unasked (ownIn s) n h)))
+        go true is rest = same-on (after s (c ∷ h)) (after s h) (after s (unasked (ownIn s) n h)) (operator-call h c is) rest
+        go false is rest = same-call (after s h) (after s (unasked (ownIn s) n h)) rest c
 
     -- Two histories that are the same but for operator records of span n.
-    pub same-beneath : (g h : List Call) → unasked own n g ≡ unasked own n h → SameBeneath n (after s g) (after s h)
+    pub same-beneath : (g h : List Call) → unasked (ownIn s) n g ≡ unasked (ownIn s) n h → SameBeneath n (after s g) (after s h)
     same-beneath g h e =
-        same-on (after s g) (after s (unasked own n g)) (after s h) (unasked-same g)
-        (subst (λ (k : List Call). SameBeneath n (after s k) (after s h)) (sym e) (same-back (after s h) (after s (unasked own n h)) (unasked-same h)))
+        same-on (after s g) (after s (unasked (ownIn s) n g)) (after s h) (unasked-same g)
+        (subst (λ (k : List Call). SameBeneath n (after s k) (after s h)) (sym e) (same-back (after s h) (after s (unasked (ownIn s) n h)) (unasked-same h)))
 
-    skipped : (h g : List Call) (c : Call) → isOperator n (readAs own c) ≡ true → unasked own n (h ++ (c ∷ g)) ≡ unasked own n (h ++ g)
+    skipped : (h g : List Call) (c : Call) → isOperator n (readAs (ownIn s) c) ≡ true → unasked (ownIn s) n (h ++ (c ∷ g)) ≡ unasked (ownIn s) n (h ++ g)
     unfolding unasked
     skipped [] g c is = rw is refl
     skipped (d ∷ h) g c is =
-        ap (λ (k : List Call). cond (isOperator n (readAs own d)) k (d ∷ k)) (skipped h g c is)
+        ap (λ (k : List Call). cond (isOperator n (readAs (ownIn s) d)) k (d ∷ k)) (skipped h g c is)
 
     -- A request comes after the calls g, and goes after the calls h: c is the record that brings it, d the one that takes it away.
-    module _ (g : List Call) (c : Call) (h : List Call) (d : Call) (request : ℕ) (comes : readAs own c ≡ Operator n request)
-        (goes : readAs own d ≡ Operator n none) where
-      is-operator : (e : Call) (q : ℕ) → readAs own e ≡ Operator n q → isOperator n (readAs own e) ≡ true
+    module _ (g : List Call) (c : Call) (h : List Call) (d : Call) (request : ℕ) (comes : readAs (ownIn s) c ≡ Operator n request)
+        (goes : readAs (ownIn s) d ≡ Operator n none) where
+      is-operator : (e : Call) (q : ℕ) → readAs (ownIn s) e ≡ Operator n q → isOperator n (readAs (ownIn s) e) ≡ true
       is-operator e q is = rw is (eq-eqb n n refl)
 
       pub comes-and-goes : SameBeneath n (after s (d ∷ (h ++ (c ∷ g)))) (after s (h ++ g))
@@ -176,7 +173,7 @@ module _ (n : ℕ) where
       spans-without = gone n s (h ++ (c ∷ g)) d goes ∙ comes-and-goes .spans
 
       -- .. so they are wholly the same, if span n had none and is asked for none between.
-      pub as-if-not-come : n ≤ 1 → spanAfter n s g .operator ≡ none → operatorTaken own n h ≡ false
+      pub as-if-not-come : n ≤ 1 → spanAfter n s g .operator ≡ none → operatorTaken (ownIn s) n h ≡ false
           → (after s (d ∷ (h ++ (c ∷ g))) .spans ≡ after s (h ++ g) .spans) × (after s (d ∷ (h ++ (c ∷ g))) .stations ≡ after s (h ++ g) .stations)
       as-if-not-come side free u =
           (spans-without ∙ bare-none (eqb n 0) (after s (h ++ g) .spans) (operator-stays n side s g h u ∙ free), comes-and-goes .stations)

@@ -20,7 +20,7 @@ use Rattle.controller.specs.State.{Choice, Spans, State, spanOf}
 use Rattle.controller.specs.Handling.{acted}
 use Rattle.controller.specs.Closing.{isTick}
 use Rattle.promises.specs.History.{Call, after}
-use Rattle.promises.specs.Spans.{readAs, isLink, ticksTaken, linkTaken, spanAfter, requestOn, automaticOn}
+use Rattle.promises.specs.Spans.{ownIn, ticksIn, readAs, isLink, ticksTaken, linkTaken, spanAfter, requestOn, automaticOn}
 use Rattle.promises.proofs.demand2.AfterKept.{choice-after}
 use Rattle.promises.proofs.spans.Readings.{Sided, sided, same-span}
 use Rattle.promises.proofs.spans.OneRecord.{span-call, touched, found-back, cabled-touched, ticked-both}
@@ -40,82 +40,73 @@ module _ (n : ℕ) (side : n ≤ 1) (t : Ticks) (f x k : ℕ) (y : Spans) (held 
   acted-held (Block m a) low u = held
 
 module _ (s : State) (n : ℕ) (side : n ≤ 1) where
-  abbrev t : Ticks
-  t = s .choice .ticks
-
-  abbrev own : ℕ
-  own = s .choice .address
-
   -- The link record starts it ..
-  starts : (g : List Call) (c : Call) (x : ℕ) → readAs own c ≡ Link n x → (x ≡ spanAfter n s g .stored → ⊥) → spanAfter n s g .force < x
-      → HeldOff t (spanAfter n s g .force) x 0 (spanAfter n s (c ∷ g))
+  starts : (g : List Call) (c : Call) (x : ℕ) → readAs (ownIn s) c ≡ Link n x → (x ≡ spanAfter n s g .stored → ⊥) → spanAfter n s g .force < x
+      → HeldOff (ticksIn s) (spanAfter n s g .force) x 0 (spanAfter n s (c ∷ g))
   unfolding acted
   starts g c x is other worse =
       let u : Span = spanAfter n s g in
-      subst (HeldOff t (u .force) x 0)
-      (sym (span-call s g c n ∙ ap (λ (r : Reading). waited t (automatic t u) (spanOf n (acted t r (after s g .spans)))) is
-      ∙ ap (waited t (automatic t u)) (found-back n (linked t x u) (after s g .spans))))
-      (held-waited t (u .force) x 0 (linked t x u) (held-linked t x u other worse) (automatic t u))
+      subst (HeldOff (ticksIn s) (u .force) x 0)
+      (sym (span-call s g c n ∙ ap (λ (r : Reading). waited (ticksIn s) (automatic (ticksIn s) u) (spanOf n (acted (ticksIn s) r (after s g .spans)))) is
+      ∙ ap (waited (ticksIn s) (automatic (ticksIn s) u)) (found-back n (linked (ticksIn s) x u) (after s g .spans))))
+      (held-waited (ticksIn s) (u .force) x 0 (linked (ticksIn s) x u) (held-linked (ticksIn s) x u other worse) (automatic (ticksIn s) u))
 
   -- .. and the calls after it count its ticks.
-  goes-on : (f x : ℕ) (g : List Call) → HeldOff t f x 0 (spanAfter n s g) → (h : List Call) → linkTaken own n h ≡ false
-      → HeldOff t f x (ticksTaken own h) (spanAfter n s (h ++ g))
+  goes-on : (f x : ℕ) (g : List Call) → HeldOff (ticksIn s) f x 0 (spanAfter n s g) → (h : List Call) → linkTaken (ownIn s) n h ≡ false
+      → HeldOff (ticksIn s) f x (ticksTaken (ownIn s) h) (spanAfter n s (h ++ g))
   unfolding linkTaken ticksTaken
   goes-on f x g held [] u = held
   goes-on f x g held (d ∷ h) u =
       let y : Spans = after s (h ++ g) .spans in
-      let k : ℕ = ticksTaken own (d ∷ h) in
-      let (first, rest) = neither (isLink n (readAs own d)) (linkTaken own n h) u in
-      subst (HeldOff t f x k) (sym (span-call s (h ++ g) d n))
-      (held-waited t f x k (spanOf n (acted t (readAs own d) y))
-      (acted-held n side t f x (ticksTaken own h) y (goes-on f x g held h rest) (readAs own d) (sided own (d .bytes) (d .room)) first)
-      (automatic t (spanOf n y)))
+      let k : ℕ = ticksTaken (ownIn s) (d ∷ h) in
+      let (first, rest) = neither (isLink n (readAs (ownIn s) d)) (linkTaken (ownIn s) n h) u in
+      subst (HeldOff (ticksIn s) f x k) (sym (span-call s (h ++ g) d n))
+      (held-waited (ticksIn s) f x k (spanOf n (acted (ticksIn s) (readAs (ownIn s) d) y))
+      (acted-held n side (ticksIn s) f x (ticksTaken (ownIn s) h) y (goes-on f x g held h rest) (readAs (ownIn s) d) (sided (ownIn s) (d .bytes) (d .room)) first)
+      (automatic (ticksIn s) (spanOf n y)))
 
-  module _ (g : List Call) (c : Call) (x : ℕ) (is : readAs own c ≡ Link n x) where
+  module _ (g : List Call) (c : Call) (x : ℕ) (is : readAs (ownIn s) c ≡ Link n x) where
     -- A status that differs from the stored one and is worse than the one in force. A setting of 0 is no exception: no tick is below it.
-    pub held-off : (x ≡ spanAfter n s g .stored → ⊥) → spanAfter n s g .force < x → (h : List Call) → linkTaken own n h ≡ false
-        → HeldOff t (spanAfter n s g .force) x (ticksTaken own h) (spanAfter n s (h ++ (c ∷ g)))
+    pub held-off : (x ≡ spanAfter n s g .stored → ⊥) → spanAfter n s g .force < x → (h : List Call) → linkTaken (ownIn s) n h ≡ false
+        → HeldOff (ticksIn s) (spanAfter n s g .force) x (ticksTaken (ownIn s) h) (spanAfter n s (h ++ (c ∷ g)))
     held-off other worse = goes-on (spanAfter n s g .force) x (c ∷ g) (starts g c x is other worse)
 
     -- "with a setting of 0 it comes into force at once".
-    pub at-once : t .holdoff ≡ 0 → (x ≡ spanAfter n s g .stored → ⊥) → spanAfter n s g .force < x → spanAfter n s (c ∷ g) .force ≡ x
-    at-once zero other worse = held-over t (spanAfter n s (c ∷ g)) (starts g c x is other worse) (omega arith)
+    pub at-once : (ticksIn s) .holdoff ≡ 0 → (x ≡ spanAfter n s g .stored → ⊥) → spanAfter n s g .force < x → spanAfter n s (c ∷ g) .force ≡ x
+    at-once zero other worse = held-over (ticksIn s) (spanAfter n s (c ∷ g)) (starts g c x is other worse) (omega arith)
 
     -- A link that was good: degraded, or failed.
-    module _ (stored : spanAfter n s g .stored ≡ good) (force : spanAfter n s g .force ≡ good) (worse : good < x) (h : List Call) (u : linkTaken own n h ≡ false) where
-      abbrev now : State
-      now = after s (h ++ (c ∷ g))
-
-      from-good : HeldOff t good x (ticksTaken own h) (spanAfter n s (h ++ (c ∷ g)))
+    module _ (stored : spanAfter n s g .stored ≡ good) (force : spanAfter n s g .force ≡ good) (worse : good < x) (h : List Call) (u : linkTaken (ownIn s) n h ≡ false) where
+      from-good : HeldOff (ticksIn s) good x (ticksTaken (ownIn s) h) (spanAfter n s (h ++ (c ∷ g)))
       from-good =
-          subst (λ (f : ℕ). HeldOff t f x (ticksTaken own h) (spanAfter n s (h ++ (c ∷ g)))) force
+          subst (λ (f : ℕ). HeldOff (ticksIn s) f x (ticksTaken (ownIn s) h) (spanAfter n s (h ++ (c ∷ g)))) force
           (held-off (λ e. omega arith) (omega arith) h u)
 
       -- the settings stay, so that requests may be asked with those of s
-      with-ticks : (P : ℕ → Type 0) (ask : Ticks → Span → ℕ) → P (ask t (spanOf n (now .spans))) → P (ask (now .choice .ticks) (spanOf n (now .spans)))
-      with-ticks P ask p = subst (λ (k : Choice). P (ask (k .ticks) (spanOf n (now .spans)))) (sym (choice-after s (h ++ (c ∷ g)))) p
+      with-ticks : (P : ℕ → Type 0) (ask : Ticks → Span → ℕ) → P (ask (ticksIn s) (spanOf n ((after s (h ++ (c ∷ g))) .spans))) → P (ask ((after s (h ++ (c ∷ g))) .choice .ticks) (spanOf n ((after s (h ++ (c ∷ g))) .spans)))
+      with-ticks P ask p = subst (λ (k : Choice). P (ask (k .ticks) (spanOf n ((after s (h ++ (c ∷ g))) .spans)))) (sym (choice-after s (h ++ (c ∷ g)))) p
 
-      pub good-while-held : ticksTaken own h < t .holdoff → spanOf n (now .spans) .force ≡ good
-      good-while-held = still-held t (spanOf n (now .spans)) from-good
+      pub good-while-held : ticksTaken (ownIn s) h < (ticksIn s) .holdoff → spanOf n ((after s (h ++ (c ∷ g))) .spans) .force ≡ good
+      good-while-held = still-held (ticksIn s) (spanOf n ((after s (h ++ (c ∷ g))) .spans)) from-good
 
-      pub worse-when-over : t .holdoff ≤ ticksTaken own h → spanOf n (now .spans) .force ≡ x
-      worse-when-over = held-over t (spanOf n (now .spans)) from-good
+      pub worse-when-over : (ticksIn s) .holdoff ≤ ticksTaken (ownIn s) h → spanOf n ((after s (h ++ (c ∷ g))) .spans) .force ≡ x
+      worse-when-over = held-over (ticksIn s) (spanOf n ((after s (h ++ (c ∷ g))) .spans)) from-good
 
-      -- P6's own words: "IDLE after 29 ticks" ..
-      pub idle-meanwhile : ticksTaken own h < t .holdoff → LinkDecides t (spanOf n (now .spans)) → requestOn n now ≡ IDLE
-      idle-meanwhile more d = with-ticks (λ (q : ℕ). q ≡ IDLE) request (idle-while-held t (spanOf n (now .spans)) from-good more d)
+      -- P6's (ownIn s) words: "IDLE after 29 ticks" ..
+      pub idle-meanwhile : ticksTaken (ownIn s) h < (ticksIn s) .holdoff → LinkDecides (ticksIn s) (spanOf n ((after s (h ++ (c ∷ g))) .spans)) → requestOn n (after s (h ++ (c ∷ g))) ≡ IDLE
+      idle-meanwhile more d = with-ticks (λ (q : ℕ). q ≡ IDLE) request (idle-while-held (ticksIn s) (spanOf n ((after s (h ++ (c ∷ g))) .spans)) from-good more d)
 
       -- .. "SF after 30": the automatic request, and the span request unless the operator's is above it.
-      pub failed-then : x ≡ failed → t .holdoff ≤ ticksTaken own h
-          → (automaticOn n now ≡ SF) × (requestOn n now ≡ higher (spanOf n (now .spans) .operator) SF)
+      pub failed-then : x ≡ failed → (ticksIn s) .holdoff ≤ ticksTaken (ownIn s) h
+          → (automaticOn n (after s (h ++ (c ∷ g))) ≡ SF) × (requestOn n (after s (h ++ (c ∷ g))) ≡ higher (spanOf n ((after s (h ++ (c ∷ g))) .spans) .operator) SF)
       failed-then is over =
-          let held : HeldOff t good failed (ticksTaken own h) (spanOf n (now .spans)) = rw (← is) from-good in
-          let (sf, top) = sf-when-over t (spanOf n (now .spans)) held over in (
+          let held : HeldOff (ticksIn s) good failed (ticksTaken (ownIn s) h) (spanOf n ((after s (h ++ (c ∷ g))) .spans)) = rw (← is) from-good in
+          let (sf, top) = sf-when-over (ticksIn s) (spanOf n ((after s (h ++ (c ∷ g))) .spans)) held over in (
             with-ticks (λ (q : ℕ). q ≡ SF) automatic sf,
-            with-ticks (λ (q : ℕ). q ≡ higher (spanOf n (now .spans) .operator) SF) request top,
+            with-ticks (λ (q : ℕ). q ≡ higher (spanOf n ((after s (h ++ (c ∷ g))) .spans) .operator) SF) request top,
           )
 
-      pub degraded-then : x ≡ degraded → t .holdoff ≤ ticksTaken own h → LinkAlone t (spanOf n (now .spans)) → automaticOn n now ≡ SD
+      pub degraded-then : x ≡ degraded → (ticksIn s) .holdoff ≤ ticksTaken (ownIn s) h → LinkAlone (ticksIn s) (spanOf n ((after s (h ++ (c ∷ g))) .spans)) → automaticOn n (after s (h ++ (c ∷ g))) ≡ SD
       degraded-then is over a =
-          let held : HeldOff t good degraded (ticksTaken own h) (spanOf n (now .spans)) = rw (← is) from-good in
-          with-ticks (λ (q : ℕ). q ≡ SD) automatic (sd-when-over t (spanOf n (now .spans)) held over a)
+          let held : HeldOff (ticksIn s) good degraded (ticksTaken (ownIn s) h) (spanOf n ((after s (h ++ (c ∷ g))) .spans)) = rw (← is) from-good in
+          with-ticks (λ (q : ℕ). q ≡ SD) automatic (sd-when-over (ticksIn s) (spanOf n ((after s (h ++ (c ∷ g))) .spans)) held over a)

@@ -18,7 +18,7 @@ use Rattle.controller.specs.State.{Choice, Spans, State, spanOf, withSpan}
 use Rattle.controller.specs.Handling.{acted}
 use Rattle.controller.specs.Closing.{isTick}
 use Rattle.promises.specs.History.{Call, after}
-use Rattle.promises.specs.Spans.{readAs, isKeepalive, ticksQuiet, upTo, spanAfter, automaticOn}
+use Rattle.promises.specs.Spans.{ownIn, ticksIn, readAs, isKeepalive, ticksQuiet, upTo, spanAfter, automaticOn}
 use Rattle.promises.proofs.demand2.AfterKept.{choice-after}
 use Rattle.promises.proofs.spans.Readings.{Sided, sided, same-span}
 use Rattle.promises.proofs.spans.OneRecord.{span-call, touched, found-back, cabled-touched, ticked-both}
@@ -100,30 +100,24 @@ aged-is-sf t u high = rw (le-leb (t .keepalive) (u .age) high) (go (eqb (u .forc
 
 -- s is any state, g the calls before which a ticks had passed since a keepalive, h the calls after.
 module _ (s : State) (n : ℕ) (side : n ≤ 1) (g : List Call) (a : ℕ) (first : spanAfter n s g .age ≡ upTo (s .choice .ticks .keepalive) a) where
-  abbrev t : Ticks
-  t = s .choice .ticks
-
-  abbrev own : ℕ
-  own = s .choice .address
-
-  pub age-counts : (h : List Call) → spanAfter n s (h ++ g) .age ≡ upTo (t .keepalive) (ticksQuiet own n a h)
+  pub age-counts : (h : List Call) → spanAfter n s (h ++ g) .age ≡ upTo ((ticksIn s) .keepalive) (ticksQuiet (ownIn s) n a h)
   unfolding ticksQuiet
   age-counts [] = first
   age-counts (c ∷ h) =
       let y : Spans = after s (h ++ g) .spans in
       ap (λ (z : Span). z .age) (span-call s (h ++ g) c n)
-      ∙ waited-age t (automatic t (spanOf n y)) (spanOf n (acted t (readAs own c) y))
-      ∙ acted-age n side t y (ticksQuiet own n a h) (age-counts h) (readAs own c) (sided own (c .bytes) (c .room))
+      ∙ waited-age (ticksIn s) (automatic (ticksIn s) (spanOf n y)) (spanOf n (acted (ticksIn s) (readAs (ownIn s) c) y))
+      ∙ acted-age n side (ticksIn s) y (ticksQuiet (ownIn s) n a h) (age-counts h) (readAs (ownIn s) c) (sided (ownIn s) (c .bytes) (c .room))
 
   -- Keepalives coming: fewer ticks since the latest than the setting ..
-  pub keepalives-coming : (h : List Call) → ticksQuiet own n a h < t .keepalive → spanAfter n s (h ++ g) .age < t .keepalive
+  pub keepalives-coming : (h : List Call) → ticksQuiet (ownIn s) n a h < (ticksIn s) .keepalive → spanAfter n s (h ++ g) .age < (ticksIn s) .keepalive
   keepalives-coming h low =
-      let is : spanAfter n s (h ++ g) .age ≡ ticksQuiet own n a h = age-counts h ∙ rw (lt-ltb (ticksQuiet own n a h) (t .keepalive) low) refl in
+      let is : spanAfter n s (h ++ g) .age ≡ ticksQuiet (ownIn s) n a h = age-counts h ∙ rw (lt-ltb (ticksQuiet (ownIn s) n a h) ((ticksIn s) .keepalive) low) refl in
       omega arith
 
   -- .. and else SF.
-  pub silence-is-sf : (h : List Call) → t .keepalive ≤ ticksQuiet own n a h → automaticOn n (after s (h ++ g)) ≡ SF
+  pub silence-is-sf : (h : List Call) → (ticksIn s) .keepalive ≤ ticksQuiet (ownIn s) n a h → automaticOn n (after s (h ++ g)) ≡ SF
   silence-is-sf h high =
-      let is : spanAfter n s (h ++ g) .age ≡ t .keepalive = age-counts h ∙ rw (le-ltb (ticksQuiet own n a h) (t .keepalive) high) refl in
+      let is : spanAfter n s (h ++ g) .age ≡ (ticksIn s) .keepalive = age-counts h ∙ rw (le-ltb (ticksQuiet (ownIn s) n a h) ((ticksIn s) .keepalive) high) refl in
       ap (λ (k : Choice). automatic (k .ticks) (spanAfter n s (h ++ g))) (choice-after s (h ++ g))
-      ∙ aged-is-sf t (spanAfter n s (h ++ g)) (omega arith)
+      ∙ aged-is-sf (ticksIn s) (spanAfter n s (h ++ g)) (omega arith)

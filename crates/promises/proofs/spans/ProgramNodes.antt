@@ -6,8 +6,6 @@ use mathlib.Core.List.{List, [], _∷_, _++_}
 use native.Mathlib.Omega.{arith}
 use lib.Dec.{eqb}
 use borrow.Author.Tests.{eqb-true}
-use Rattle.settings.specs.declared.choice.Ticks.{Ticks}
-use Rattle.settings.specs.Ticks.{ticksOf}
 use Rattle.settings.specs.Reading.{settingsIn}
 use Rattle.spans.specs.declared.span.Span.{Span}
 use Rattle.spans.specs.Codes.{good, failed, FS, SF, IDLE, none, listed, higher}
@@ -19,8 +17,8 @@ use Rattle.controller.specs.State.{State, spanOf, started}
 use Rattle.controller.specs.Node.{choiceOf, stateOf}
 use Rattle.controller.specs.Kept.{StateKept}
 use Rattle.controller.specs.Promise.{Begun}
-use Rattle.promises.specs.History.{Call, after, Always, startOf, Made, callOf, callsOf, nodeAfter, Met}
-use Rattle.promises.specs.Spans.{readAs, ticksTaken, linkTaken, operatorTaken, unasked, spanAfter, requestOn, automaticOn, Unrequested, Swept, SameBeneath}
+use Rattle.promises.specs.History.{Call, after, Always, startOf, Made, callOf, callsOf, Met}
+use Rattle.promises.specs.Spans.{readAs, ticksTaken, linkTaken, operatorTaken, unasked, spanAfter, requestOn, automaticOn, Unrequested, UnrequestedOn, Swept, SameBeneath, ownFrom, ticksFrom, seen}
 use Rattle.promises.proofs.demand2.Coming.{state-after, ruled}
 use Rattle.promises.proofs.spans.HoldOff.{held-off, idle-meanwhile, failed-then}
 use Rattle.promises.proofs.spans.Purging.{started-swept}
@@ -53,81 +51,68 @@ of-both : (P : State → State → Type 0) {x y u v : State} → x ≡ u → y �
 of-both P {x} {y} {u} {v} e d p = subst (λ (z : State). P z y) (sym e) (subst (P u) (sym d) p)
 
 module _ (b : List ℕ) (st : Started) (begun : Begun b st) where
-  abbrev own : ℕ
-  own = settingsIn b .settings .address
-
-  abbrev t : Ticks
-  t = ticksOf (settingsIn b .settings)
-
-  -- What the rules see of the node after the calls h.
-  abbrev seen : List Made → State
-  seen h = stateOf (nodeAfter st h)
-
-  seen-is : (h g : List Made) → Met st (h ++ g) → seen (h ++ g) ≡ after (startOf b) (callsOf h ++ callsOf g)
+  seen-is : (h g : List Made) → Met st (h ++ g) → seen st (h ++ g) ≡ after (startOf b) (callsOf h ++ callsOf g)
   seen-is h g met = state-after b st begun (h ++ g) met ∙ ap (after (startOf b)) (calls-both h g)
 
   -- Hold-off: m is the link record, g the calls before it, h those after it.
-  module _ (n : ℕ) (side : n ≤ 1) (g : List Made) (m : Made) (x : ℕ) (is : readAs own (callOf m) ≡ Link n x) (h : List Made)
-      (met : Met st (h ++ (m ∷ g))) (u : linkTaken own n (callsOf h) ≡ false) where
-    abbrev now : State
-    now = seen (h ++ (m ∷ g))
-
-    before : seen g ≡ after (startOf b) (callsOf g)
+  module _ (n : ℕ) (side : n ≤ 1) (g : List Made) (m : Made) (x : ℕ) (is : readAs (ownFrom b) (callOf m) ≡ Link n x) (h : List Made)
+      (met : Met st (h ++ (m ∷ g))) (u : linkTaken (ownFrom b) n (callsOf h) ≡ false) where
+    before : seen st g ≡ after (startOf b) (callsOf g)
     unfolding Met
     before = state-after b st begun g (met-before st h (m ∷ g) met .1)
 
-    later : now ≡ after (startOf b) (callsOf h ++ (callOf m ∷ callsOf g))
+    later : (seen st (h ++ (m ∷ g))) ≡ after (startOf b) (callsOf h ++ (callOf m ∷ callsOf g))
     unfolding callsOf
     later = seen-is h (m ∷ g) met
 
-    pub node-held-off : (x ≡ spanOf n (seen g .spans) .stored → ⊥) → spanOf n (seen g .spans) .force < x
-        → HeldOff t (spanOf n (seen g .spans) .force) x (ticksTaken own (callsOf h)) (spanOf n (now .spans))
+    pub node-held-off : (x ≡ spanOf n (seen st g .spans) .stored → ⊥) → spanOf n (seen st g .spans) .force < x
+        → HeldOff (ticksFrom b) (spanOf n (seen st g .spans) .force) x (ticksTaken (ownFrom b) (callsOf h)) (spanOf n ((seen st (h ++ (m ∷ g))) .spans))
     unfolding startOf started
     node-held-off =
         of-both
         (λ (y z : State). (x ≡ spanOf n (y .spans) .stored → ⊥) → spanOf n (y .spans) .force < x
-        → HeldOff t (spanOf n (y .spans) .force) x (ticksTaken own (callsOf h)) (spanOf n (z .spans)))
+        → HeldOff (ticksFrom b) (spanOf n (y .spans) .force) x (ticksTaken (ownFrom b) (callsOf h)) (spanOf n (z .spans)))
         before later (λ other worse. held-off (startOf b) n side (callsOf g) (callOf m) x is other worse (callsOf h) u)
 
     -- From a good link.
-    module _ (stored : spanOf n (seen g .spans) .stored ≡ good) (force : spanOf n (seen g .spans) .force ≡ good) where
-      link : (part : Span → ℕ) → part (spanOf n (seen g .spans)) ≡ good → part (spanOf n (after (startOf b) (callsOf g) .spans)) ≡ good
+    module _ (stored : spanOf n (seen st g .spans) .stored ≡ good) (force : spanOf n (seen st g .spans) .force ≡ good) where
+      link : (part : Span → ℕ) → part (spanOf n (seen st g .spans)) ≡ good → part (spanOf n (after (startOf b) (callsOf g) .spans)) ≡ good
       link part e = ap (λ (z : State). part (spanOf n (z .spans))) (sym before) ∙ e
 
-      pub node-idle-meanwhile : good < x → ticksTaken own (callsOf h) < t .holdoff → LinkDecides t (spanOf n (now .spans)) → requestOn n now ≡ IDLE
+      pub node-idle-meanwhile : good < x → ticksTaken (ownFrom b) (callsOf h) < (ticksFrom b) .holdoff → LinkDecides (ticksFrom b) (spanOf n ((seen st (h ++ (m ∷ g))) .spans)) → requestOn n (seen st (h ++ (m ∷ g))) ≡ IDLE
       unfolding startOf started
       node-idle-meanwhile worse more =
-          subst (λ (z : State). LinkDecides t (spanOf n (z .spans)) → requestOn n z ≡ IDLE) (sym later)
+          subst (λ (z : State). LinkDecides (ticksFrom b) (spanOf n (z .spans)) → requestOn n z ≡ IDLE) (sym later)
           (idle-meanwhile (startOf b) n side (callsOf g) (callOf m) x is (link (λ (z : Span). z .stored) stored) (link (λ (z : Span). z .force) force) worse
           (callsOf h) u more)
 
       -- SF, unless the operator asks for FS.
-      pub node-failed-then : x ≡ failed → t .holdoff ≤ ticksTaken own (callsOf h)
-          → (automaticOn n now ≡ SF) × ((spanOf n (now .spans) .operator ≡ FS → ⊥) → requestOn n now ≡ SF)
+      pub node-failed-then : x ≡ failed → (ticksFrom b) .holdoff ≤ ticksTaken (ownFrom b) (callsOf h)
+          → (automaticOn n (seen st (h ++ (m ∷ g))) ≡ SF) × ((spanOf n ((seen st (h ++ (m ∷ g))) .spans) .operator ≡ FS → ⊥) → requestOn n (seen st (h ++ (m ∷ g))) ≡ SF)
       unfolding startOf started
       node-failed-then bad over =
-          let both : (automaticOn n now ≡ SF) × (requestOn n now ≡ higher (spanOf n (now .spans) .operator) SF) =
+          let both : (automaticOn n (seen st (h ++ (m ∷ g))) ≡ SF) × (requestOn n (seen st (h ++ (m ∷ g))) ≡ higher (spanOf n ((seen st (h ++ (m ∷ g))) .spans) .operator) SF) =
           subst (λ (z : State). (automaticOn n z ≡ SF) × (requestOn n z ≡ higher (spanOf n (z .spans) .operator) SF)) (sym later)
           (failed-then (startOf b) n side (callsOf g) (callOf m) x is (link (λ (z : Span). z .stored) stored) (link (λ (z : Span). z .force) force) (omega arith)
           (callsOf h) u bad over) in
-          let kept : SpanFair (now .choice .ticks) (spanOf n (now .spans)) = span-fair n now (ruled b st begun (h ++ (m ∷ g)) met .kept .state) in
-          (both .0, λ free. both .1 ∙ below-sf (spanOf n (now .spans) .operator) (kept .operator) free)
+          let kept : SpanFair ((seen st (h ++ (m ∷ g))) .choice .ticks) (spanOf n ((seen st (h ++ (m ∷ g))) .spans)) = span-fair n (seen st (h ++ (m ∷ g))) (ruled b st begun (h ++ (m ∷ g)) met .kept .state) in
+          (both .0, λ free. both .1 ∙ below-sf (spanOf n ((seen st (h ++ (m ∷ g))) .spans) .operator) (kept .operator) free)
 
   -- Beneath an operator request: two nodes of one start, whose calls k and l differ in operator records of span n alone.
   tidy : Swept (startOf b)
   unfolding startOf
   tidy = started-swept (choiceOf (settingsIn b .settings))
 
-  pub node-same-beneath : (n : ℕ) (k l : List Made) → Met st k → Met st l → unasked own n (callsOf k) ≡ unasked own n (callsOf l)
-      → SameBeneath n (seen k) (seen l)
+  pub node-same-beneath : (n : ℕ) (k l : List Made) → Met st k → Met st l → unasked (ownFrom b) n (callsOf k) ≡ unasked (ownFrom b) n (callsOf l)
+      → SameBeneath n (seen st k) (seen st l)
   unfolding startOf started
   node-same-beneath n k l mk ml e =
       of-both (SameBeneath n) (state-after b st begun k mk) (state-after b st begun l ml) (same-beneath n (startOf b) tidy (callsOf k) (callsOf l) e)
 
   -- After the calls g the request comes by the call c, the calls h are made, and it goes by the call d: nothing is lost.
-  pub node-as-if-not-come : (n : ℕ) → n ≤ 1 → (g h : List Call) (c d : Call) (request : ℕ) → readAs own c ≡ Operator n request
-      → readAs own d ≡ Operator n none → operatorTaken own n h ≡ false → spanAfter n (startOf b) g .operator ≡ none → (k l : List Made) → Met st k → Met st l
-      → callsOf k ≡ d ∷ (h ++ (c ∷ g)) → callsOf l ≡ h ++ g → (seen k .spans ≡ seen l .spans) × (seen k .stations ≡ seen l .stations)
+  pub node-as-if-not-come : (n : ℕ) → n ≤ 1 → (g h : List Call) (c d : Call) (request : ℕ) → readAs (ownFrom b) c ≡ Operator n request
+      → readAs (ownFrom b) d ≡ Operator n none → operatorTaken (ownFrom b) n h ≡ false → spanAfter n (startOf b) g .operator ≡ none → (k l : List Made) → Met st k → Met st l
+      → callsOf k ≡ d ∷ (h ++ (c ∷ g)) → callsOf l ≡ h ++ g → (seen st k .spans ≡ seen st l .spans) × (seen st k .stations ≡ seen st l .stations)
   unfolding startOf started
   node-as-if-not-come n side g h c d request comes goes u free k l mk ml ek el =
       of-both (λ (y z : State). (y .spans ≡ z .spans) × (y .stations ≡ z .stations))
@@ -135,30 +120,27 @@ module _ (b : List ℕ) (st : Started) (begun : Begun b st) where
       (as-if-not-come n (startOf b) tidy g c h d request comes goes side free u)
 
   -- A running WTR, after the calls h that follow g.
-  abbrev Quiet : ℕ → List Made → List Made → Type 0
-  Quiet n g k = automaticOn n (seen (k ++ g)) ≡ none
-
-  unrequested : (n : ℕ) (g h : List Made) → Met st (h ++ g) → Quiet n g h → Unrequested n (startOf b) (callsOf g) (callsOf h)
+  unrequested : (n : ℕ) (g h : List Made) → Met st (h ++ g) → UnrequestedOn n st g h → Unrequested n (startOf b) (callsOf g) (callsOf h)
   unrequested n g h met k = subst (λ (z : State). automaticOn n z ≡ none) (seen-is h g met) k
 
-  always : (n : ℕ) (g h : List Made) → Met st (h ++ g) → Always (Quiet n g) h → Always (Unrequested n (startOf b) (callsOf g)) (callsOf h)
+  always : (n : ℕ) (g h : List Made) → Met st (h ++ g) → Always (UnrequestedOn n st g) h → Always (Unrequested n (startOf b) (callsOf g)) (callsOf h)
   unfolding Always callsOf Met
   always n g [] met k = unrequested n g [] met k
   always n g (m ∷ h) met k = (unrequested n g (m ∷ h) met (k .0), always n g h (met .1) (k .1))
 
-  pub node-wtr-runs-on : (n : ℕ) (g h : List Made) → Met st (h ++ g) → Always (λ (k : List Made). automaticOn n (seen (k ++ g)) ≡ none) h
-      → spanOf n (seen (h ++ g) .spans) .wtr ≡ spanOf n (seen g .spans) .wtr - ticksTaken own (callsOf h)
+  pub node-wtr-runs-on : (n : ℕ) (g h : List Made) → Met st (h ++ g) → Always (λ (k : List Made). automaticOn n (seen st (k ++ g)) ≡ none) h
+      → spanOf n (seen st (h ++ g) .spans) .wtr ≡ spanOf n (seen st g .spans) .wtr - ticksTaken (ownFrom b) (callsOf h)
   unfolding startOf started
   node-wtr-runs-on n g h met k =
-      of-both (λ (y z : State). spanOf n (y .spans) .wtr ≡ spanOf n (z .spans) .wtr - ticksTaken own (callsOf h)) (seen-is h g met)
+      of-both (λ (y z : State). spanOf n (y .spans) .wtr ≡ spanOf n (z .spans) .wtr - ticksTaken (ownFrom b) (callsOf h)) (seen-is h g met)
       (state-after b st begun g (met-before st h g met)) (wtr-runs-on (startOf b) n (callsOf g) (callsOf h) (always n g h met k))
 
   -- A tick never lowers an automatic request.
-  pub node-tick-never-lowers : (n : ℕ) (h : List Made) (m : Made) → Met st (m ∷ h) → readAs own (callOf m) ≡ Tick
-      → automaticOn n (seen h) ≤ automaticOn n (stateOf (m .answer .node))
+  pub node-tick-never-lowers : (n : ℕ) (h : List Made) (m : Made) → Met st (m ∷ h) → readAs (ownFrom b) (callOf m) ≡ Tick
+      → automaticOn n (seen st h) ≤ automaticOn n (stateOf (m .answer .node))
   unfolding Met callsOf startOf started
   node-tick-never-lowers n h m met is =
-      let e : seen h ≡ after (startOf b) (callsOf h) = state-after b st begun h (met .1) in
+      let e : seen st h ≡ after (startOf b) (callsOf h) = state-after b st begun h (met .1) in
       let d : stateOf (m .answer .node) ≡ after (startOf b) (callOf m ∷ callsOf h) = state-after b st begun (m ∷ h) met in
       of-both (λ (y z : State). automaticOn n y ≤ automaticOn n z) e d
       (never-lowered (startOf b) (callsOf h) (callOf m) is n (subst StateKept e (ruled b st begun h (met .1) .kept .state)))

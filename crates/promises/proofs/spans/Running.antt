@@ -17,7 +17,7 @@ use Rattle.controller.specs.State.{Choice, Spans, State, spanOf}
 use Rattle.controller.specs.Handling.{acted}
 use Rattle.controller.specs.Closing.{isTick}
 use Rattle.promises.specs.History.{Call, after, Always}
-use Rattle.promises.specs.Spans.{readAs, ticksTaken, spanAfter, Unrequested}
+use Rattle.promises.specs.Spans.{ownIn, ticksIn, readAs, ticksTaken, spanAfter, Unrequested}
 use Rattle.promises.proofs.demand2.AfterKept.{choice-after}
 use Rattle.promises.proofs.spans.OneRecord.{span-call, touched, cabled-touched, ticked-both}
 
@@ -43,50 +43,44 @@ now P [] k = k
 now P (c ∷ h) k = k .0
 
 module _ (s : State) (n : ℕ) (g : List Call) where
-  abbrev t : Ticks
-  t = s .choice .ticks
-
-  abbrev own : ℕ
-  own = s .choice .address
-
-  unrequested : (h : List Call) → Unrequested n s g h → automatic t (spanAfter n s (h ++ g)) ≡ none
+  unrequested : (h : List Call) → Unrequested n s g h → automatic (ticksIn s) (spanAfter n s (h ++ g)) ≡ none
   unrequested h q = ap (λ (k : Choice). automatic (k .ticks) (spanAfter n s (h ++ g))) (sym (choice-after s (h ++ g))) ∙ q
 
   step : (c : Call) (h : List Call) → Unrequested n s g (c ∷ h) → Unrequested n s g h
-      → spanAfter n s (c ∷ (h ++ g)) .wtr ≡ cond (isTick (readAs own c)) (spanAfter n s (h ++ g) .wtr - 1) (spanAfter n s (h ++ g) .wtr)
+      → spanAfter n s (c ∷ (h ++ g)) .wtr ≡ cond (isTick (readAs (ownIn s) c)) (spanAfter n s (h ++ g) .wtr - 1) (spanAfter n s (h ++ g) .wtr)
   step c h later before =
       let u : Span = spanAfter n s (h ++ g) in
-      let v : Span = spanOf n (acted t (readAs own c) (after s (h ++ g) .spans)) in
-      let is : spanAfter n s (c ∷ (h ++ g)) ≡ waited t (automatic t u) v = span-call s (h ++ g) c n in
-      let same : automatic t v ≡ automatic t u =
-      sym (waited-automatic t (automatic t u) v) ∙ ap (automatic t) (sym is) ∙ unrequested (c ∷ h) later ∙ sym (unrequested h before) in
-      ap (λ (z : Span). z .wtr) (is ∙ waited-same t (automatic t u) v same) ∙ acted-wtr n t (after s (h ++ g) .spans) (readAs own c)
+      let v : Span = spanOf n (acted (ticksIn s) (readAs (ownIn s) c) (after s (h ++ g) .spans)) in
+      let is : spanAfter n s (c ∷ (h ++ g)) ≡ waited (ticksIn s) (automatic (ticksIn s) u) v = span-call s (h ++ g) c n in
+      let same : automatic (ticksIn s) v ≡ automatic (ticksIn s) u =
+      sym (waited-automatic (ticksIn s) (automatic (ticksIn s) u) v) ∙ ap (automatic (ticksIn s)) (sym is) ∙ unrequested (c ∷ h) later ∙ sym (unrequested h before) in
+      ap (λ (z : Span). z .wtr) (is ∙ waited-same (ticksIn s) (automatic (ticksIn s) u) v same) ∙ acted-wtr n (ticksIn s) (after s (h ++ g) .spans) (readAs (ownIn s) c)
 
-  pub wtr-runs-on : (h : List Call) → Always (Unrequested n s g) h → spanAfter n s (h ++ g) .wtr ≡ spanAfter n s g .wtr - ticksTaken own h
+  pub wtr-runs-on : (h : List Call) → Always (Unrequested n s g) h → spanAfter n s (h ++ g) .wtr ≡ spanAfter n s g .wtr - ticksTaken (ownIn s) h
   unfolding Always ticksTaken
   wtr-runs-on [] k = omega arith
   wtr-runs-on (c ∷ h) k =
       step c h (k .0) (now (Unrequested n s g) h (k .1))
-      ∙ fall (isTick (readAs own c)) (spanAfter n s (h ++ g) .wtr) (spanAfter n s g .wtr) (ticksTaken own h) (wtr-runs-on h (k .1))
+      ∙ fall (isTick (readAs (ownIn s) c)) (spanAfter n s (h ++ g) .wtr) (spanAfter n s g .wtr) (ticksTaken (ownIn s) h) (wtr-runs-on h (k .1))
     where
       fall : (b : Bool) (left w k : ℕ) → left ≡ w - k → cond b (left - 1) left ≡ w - cond b (suc k) k
       fall true left w k e = omega arith
       fall false left w k e = e
 
-  ticks-both : (h k : List Call) → ticksTaken own (h ++ k) ≡ ticksTaken own h + ticksTaken own k
+  ticks-both : (h k : List Call) → ticksTaken (ownIn s) (h ++ k) ≡ ticksTaken (ownIn s) h + ticksTaken (ownIn s) k
   unfolding ticksTaken
   ticks-both [] k = omega arith
-  ticks-both (c ∷ h) k = more (isTick (readAs own c)) (ticksTaken own (h ++ k)) (ticksTaken own h) (ticksTaken own k) (ticks-both h k)
+  ticks-both (c ∷ h) k = more (isTick (readAs (ownIn s) c)) (ticksTaken (ownIn s) (h ++ k)) (ticksTaken (ownIn s) h) (ticksTaken (ownIn s) k) (ticks-both h k)
     where
       more : (b : Bool) (all a z : ℕ) → all ≡ a + z → cond b (suc all) all ≡ cond b (suc a) a + z
       more true all a z e = omega arith
       more false all a z e = e
 
   -- A request comes, the calls h are made, and it goes: what ran has run by the ticks of h.
-  pub wtr-runs-beneath : (c : Call) (h : List Call) (d : Call) (request : ℕ) → readAs own c ≡ Operator n request → readAs own d ≡ Operator n none
-      → Always (Unrequested n s g) (d ∷ (h ++ (c ∷ []))) → spanAfter n s ((d ∷ (h ++ (c ∷ []))) ++ g) .wtr ≡ spanAfter n s g .wtr - ticksTaken own h
+  pub wtr-runs-beneath : (c : Call) (h : List Call) (d : Call) (request : ℕ) → readAs (ownIn s) c ≡ Operator n request → readAs (ownIn s) d ≡ Operator n none
+      → Always (Unrequested n s g) (d ∷ (h ++ (c ∷ []))) → spanAfter n s ((d ∷ (h ++ (c ∷ []))) ++ g) .wtr ≡ spanAfter n s g .wtr - ticksTaken (ownIn s) h
   unfolding ticksTaken
   wtr-runs-beneath c h d request comes goes k =
-      let first : ticksTaken own (c ∷ []) ≡ 0 = rw comes refl in
-      let last : ticksTaken own (d ∷ (h ++ (c ∷ []))) ≡ ticksTaken own (h ++ (c ∷ [])) = rw goes refl in
+      let first : ticksTaken (ownIn s) (c ∷ []) ≡ 0 = rw comes refl in
+      let last : ticksTaken (ownIn s) (d ∷ (h ++ (c ∷ []))) ≡ ticksTaken (ownIn s) (h ++ (c ∷ [])) = rw goes refl in
       wtr-runs-on (d ∷ (h ++ (c ∷ []))) k ∙ ap (λ (m : ℕ). spanAfter n s g .wtr - m) (last ∙ ticks-both h (c ∷ []) ∙ omega arith)
