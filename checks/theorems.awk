@@ -8,8 +8,7 @@
 # What is missing is said; exit status 1.
 BEGIN {
     unique = "Rattle.promises.specs.Unique"
-    contracts = "Rattle.promises.specs.Contracts"
-    # Behind P.clauses, in a clause that a file writes out itself since the generator gives no plain type for it.
+    # Behind P.clauses, in a clause that is written out since the generator gives no plain type for it.
     every_model = "(w .𝓤) (w .H) (w .𝓖 .A) (w .𝓜 .mem) (w .𝓡 .run) κs a .ensures g x e"
 }
 
@@ -80,10 +79,8 @@ function learn(i, f,    n, p) {
     if (p[1] == "use" && p[2] ~ /\.\{/ && n == 2) take_names(f, p[2])
     else if (p[1] == "use" && p[3] == "as" && n == 4) bring(f, p[4] ".", p[2])
     else if (p[1] == "pub" && p[3] == ":") { type[i] = joined(p, 4, n); name[i] = p[2]; own[f, p[2]] = 1 }
-    else if (p[1] == "abbrev" && p[2] == "pub" && p[4] == ":") { clause[f, p[3]] = joined(p, 5, n); own[f, p[3]] = 1 }
     else if (p[2] == ":") own[f, p[1]] = 1
-    else if (own[f, p[1]]) meaning[f, p[1]] = joined(p, 2, n)
-    else if (p[1] != "unfolding") tell(f, "`" p[1] " " p[2] " ..` cannot be read")
+    else if (p[1] != "unfolding" && !own[f, p[1]]) tell(f, "`" p[1] " " p[2] " ..` cannot be read")
 }
 
 # A module is kept with a dot behind its name, since a module and an item may share a name.
@@ -124,13 +121,11 @@ function target(f, path, ending,    head, short) {
     return short in exported ? exported[short] substr(path, length(short) + 1) : path
 }
 
-# E is the ensures of the function: the one that the generator gives, or a clause of the file that is the same at every model.
+# E is the ensures of the function: the one that the generator gives, or its clause at every model, written out.
 function is_ensures(f, E, path,    n, p) {
     if (target(f, E, ".Reads.ensures") == path) return 1
-    n = parts_of(clause[f, E], p)
-    if (n != 2 || p[1] != "Ensures" || !taken(f, "Ensures", contracts) || target(f, p[2], ".ended") != path) return 0
-    n = parts_of(meaning[f, E], p)
-    return joined(p, 1, 7) == "κs a g x e w =" && target(f, p[8], ".clauses") == path && joined(p, 9, n) == every_model
+    n = parts_of(substr(E, 2, length(E) - 2), p)
+    return joined(p, 1, 7) == "λ κs a g x e w." && target(f, p[8], ".clauses") == path && joined(p, 9, n) == every_model
 }
 
 # What a part takes: "shown", or the number of a parameter.

@@ -9,6 +9,7 @@ pub mod Examples
 pub mod Possible
 pub mod Contracts
 pub mod Unique
+pub mod Paces
 pub mod Drilled
 pub mod Quiet
 pub mod Cases

@@ -9,7 +9,8 @@ use lib.ListN.{length, getD}
 use Rattle.stations.specs.Station.{Station}
 use Rattle.stations.specs.Stations.{present}
 use Rattle.stations.specs.Table.{Found, At, Nothing, found, foundNumber, foundValues}
-use Rattle.stations.proofs.Places.{Stands, found-stands, found-none}
+use Rattle.stations.specs.Finding.{Stands}
+use Rattle.stations.proofs.Places.{found-stands, found-none}
 
 pub found-number : (a : ℕ) (l : List Station) → foundNumber (found a l) ≡ cond (present a l) 0 3
 found-number a l = go (found a l) refl

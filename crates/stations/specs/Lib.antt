@@ -6,3 +6,4 @@ pub mod Kept
 pub mod Steps
 pub mod Copies
 pub mod Examples
+pub mod Finding
