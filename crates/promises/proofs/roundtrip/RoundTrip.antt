@@ -1,7 +1,7 @@
 -- Blocks that we write are those of draft D2.0, and a node of the same level reads back what was written. Assumes nothing.
 use Prim.Native.Nat.{ℕ, _<_, _≤_, _^_}
 use mathlib.Core.Path.{_≡_, refl, sym, _∙_, ap}
-use mathlib.Core.Bool.{Bool, true, false, cond}
+use mathlib.Core.Bool.{Bool, true, false, cond, _&&_, false≢true}
 use mathlib.Core.List.{List, [], _∷_, _++_}
 use native.Mathlib.Omega.{arith}
 use lib.ListN.{length, take, length-take}
@@ -10,13 +10,13 @@ use Rattle.wire.specs.Fields.{addressAt, oddFirst, Bytes}
 use Rattle.wire.specs.Head.{broken, headOf}
 use Rattle.settings.specs.declared.choice.Settings.{Settings}
 use Rattle.settings.specs.Ticks.{ticksOf}
-use Rattle.settings.specs.Ranges.{inRange}
+use Rattle.settings.specs.Ranges.{within, inRange}
 use Rattle.settings.specs.Reading.{fieldsOf, fullIn, settingsIn}
 use Rattle.settings.proofs.Keeping.{settings-kept, ticks-kept}
 use Rattle.spans.specs.Requests.{down}
 use Rattle.blocks.specs.declared.reading.Block.the-variants.{Values}
 use Rattle.blocks.specs.declared.writing.Written.{Written}
-use Rattle.blocks.specs.Types.{knows}
+use Rattle.blocks.specs.Types.{levelInRange, knows}
 use Rattle.blocks.specs.Meaning.{Meaning, meaning, block, blockAt}
 use Rattle.blocks.specs.Writing.{weightBytes, bandwidthBytes, bytesAt, unfit, refusal, refusedWith, wrote, Wrote}
 use Rattle.blocks.proofs.RoundTrip.{written-reads-back, buffer-reads-back}
@@ -83,6 +83,17 @@ few-written level w0 w1 b0 b1 before after w c = rw (c .answer) (go (eqb (refusa
     go : (b : Bool) → cond b (wrote (length (bytesAt level w0 w1 b0 b1))) (refusedWith (refusal level w0 w1 b0 b1 (length before))) .length ≤ 14
     go true = few-bytes level w0 w1 b0 b1
     go false = omega arith
+
+-- "level 1 to 2" is the same range to the settings and to the writer: every node has a level at which blocks are written.
+pub level-is-written : (c : Settings) → inRange c ≡ true → levelInRange (c .level) ≡ true
+unfolding inRange
+level-is-written c = go (levelInRange (c .level))
+  where
+    go : (b : Bool)
+        → b && within 0 1440 (c .wtr .0) && within 0 20 (c .holdoff .0) && within 2 50 (c .keepalive .0) && within 1 20 (c .fast .0)
+        && within 1 200 (c .slow .0) && within 2 600 (c .forget .0) ≡ true → b ≡ true
+    go true h = refl
+    go false h = absurd (false≢true h)
 
 -- A block written at a level and heard by a node of that level gives, when asked, the values written.
 pub heard-back : (s : State) → StateKept s → (level : ℕ) → s .choice .known ≡ knows level → (w0 w1 b0 b1 : ℕ)
