@@ -2,6 +2,7 @@
 use Prim.Native.Nat.{ℕ, suc}
 use mathlib.Core.Bool.{Bool, true, false, cond}
 use mathlib.Core.List.{List, [], _∷_, _++_}
+use lib.ListN.{length}
 use lib.Dec.{eqb}
 use Rattle.wire.specs.Head.{kindOf, bodyOf}
 use Rattle.controller.specs.Record.{outcome}
@@ -78,3 +79,9 @@ drilled [] = []
 drilled (w ∷ l) =
     let s = begun w in
     s .line ++ cond (s .more) (told 1 (s .node) l) []
+
+-- The step that the latest of some reads gives, the latest first: each starts from the node that the one before left, and has the next number.
+unfoldable pub passed : Node → List Read → Step
+unfolding turned
+passed n [] = goesOn n []
+passed n (w ∷ l) = turned (suc (length l)) (passed n l .node) w

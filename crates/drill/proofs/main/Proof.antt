@@ -1,6 +1,7 @@
--- The settings record lies within the buffer. Assumes nothing.
-use lib.ListN.{length-take}
-use native.Mathlib.Omega.{arith}
+-- The line lies in its buffer. Assumes nothing.
+use mathlib.Core.Path.{refl, sym}
+use lib.Seq.{length-take-le}
+use Rattle.drill.proofs.Stepping.{line-within}
 use borrow.Author.Needs.{needs}
 use Rattle.drill.proofs.main.Statement.{statement}
 use Rattle.drill.proofs.main.Tie as tie
@@ -11,32 +12,29 @@ slice-aggregate-read-record c = search needs
 read-record-requires : tie.Need-read-record-requires
 read-record-requires c κs = search needs
 
-print-settings-requires : tie.Need-print-settings-requires
-print-settings-requires c κs = search needs
+slice-aggregate-begin : tie.Need-slice-aggregate-begin
+slice-aggregate-begin c = search needs
 
-returns : tie.Need-returns
-returns c = search needs
+begin-requires : tie.Need-begin-requires
+begin-requires c κs = search needs
 
-array-share-prefix-buf : tie.Need-array-share-prefix-buf
-array-share-prefix-buf c = search needs
+array-share-prefix-line : tie.Need-array-share-prefix-line
+array-share-prefix-line c = line-within refl (c .begin .ensures)
 
-slice-aggregate-start : tie.Need-slice-aggregate-start
-slice-aggregate-start c = simp length-take (omega arith)
+slice-aggregate-write-all : tie.Need-slice-aggregate-write-all
+slice-aggregate-write-all c = sym (length-take-le _ _ (line-within refl (c .before .begin .ensures)))
 
-start-requires : tie.Need-start-requires
-start-requires c κs = search needs
+write-all-requires : tie.Need-write-all-requires
+write-all-requires c κs = search needs
 
 run-requires : tie.Need-run-requires
 run-requires c κs = search needs
 
+returns : tie.Need-returns
+returns c = search needs
+
 returns-2 : tie.Need-returns-2
 returns-2 c = search needs
-
-print-settings-requires-2 : tie.Need-print-settings-requires-2
-print-settings-requires-2 c κs = search needs
-
-returns-3 : tie.Need-returns-3
-returns-3 c = search needs
 
 pub main-spec : {M : Type 1} → statement M
 main-spec =
@@ -44,12 +42,11 @@ main-spec =
     (tie.spec
     slice-aggregate-read-record
     read-record-requires
-    print-settings-requires
-    returns
-    array-share-prefix-buf
-    slice-aggregate-start
-    start-requires
+    slice-aggregate-begin
+    begin-requires
+    array-share-prefix-line
+    slice-aggregate-write-all
+    write-all-requires
     run-requires
-    returns-2
-    print-settings-requires-2
-    returns-3)
+    returns
+    returns-2)

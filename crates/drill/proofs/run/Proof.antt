@@ -1,36 +1,44 @@
--- The node stays kept; the number rises. Assumes nothing.
-use Rattle.controller.specs.Kept.{Kept}
+-- Before each test of the loop the node is that after the reads so far. Assumes nothing.
 use Prim.Native.Nat.{_-_}
+use native.Mathlib.Omega.{arith}
 use borrow.Author.Needs.{needs}
+use Rattle.drill.proofs.Running.{Passing, at-first, one-more, out-of-numbers, at-the-end}
 use Rattle.drill.proofs.run.Statement.{statement}
 use Rattle.drill.proofs.run.Tie as tie
 
 abbrev Inv-loop : tie.InvT-loop
-Inv-loop n₀ number₀ more₀ n number more = Kept n
+Inv-loop n₀ number₀ more₀ n number more = Passing n₀ n number more
 
 abbrev μ-loop : tie.MeasureT-loop
 μ-loop n₀ number₀ more₀ n number more = 18446744073709551615 - number
 
 loop-holds : tie.Need-loop-holds Inv-loop μ-loop
-loop-holds c = search needs
+loop-holds c = at-first (c .pre)
 
 add-number : tie.Need-add-number Inv-loop μ-loop
 add-number c = search needs
 
-step-requires : tie.Need-step-requires Inv-loop μ-loop
-step-requires c κs = search needs
+next-requires : tie.Need-next-requires Inv-loop μ-loop
+next-requires c κs =
+    let loop = c .before .before .loop in
+    loop .inv .kept
 
 loop-less : tie.Need-loop-less Inv-loop μ-loop
 loop-less c = search needs
 
 loop-again : tie.Need-loop-again Inv-loop μ-loop
-loop-again c = search needs
+loop-again c =
+    let loop = c .before .before .before .before .loop in
+    let if1 = c .before .before .if1 in
+    one-more (loop .inv) (search needs) (if1 .taken) (c .before .next .ensures)
 
 returns : tie.Need-returns Inv-loop μ-loop
-returns c = search needs
+returns c =
+    let loop = c .before .before .loop in
+    at-the-end (loop .inv) (c .if1 .left)
 
 returns-2 : tie.Need-returns-2 Inv-loop μ-loop
-returns-2 c = search needs
+returns-2 c = out-of-numbers (c .before .loop .inv) (search needs)
 
 pub run-spec : {M : Type 1} → statement M
 run-spec =
@@ -40,7 +48,7 @@ run-spec =
     μ-loop
     loop-holds
     add-number
-    step-requires
+    next-requires
     loop-less
     loop-again
     returns

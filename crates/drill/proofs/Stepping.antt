@@ -1,0 +1,115 @@
+-- The cases of a step, each from the line that was put. Assumes nothing.
+use Prim.Native.Nat.{ℕ, _≤_}
+use mathlib.Core.Path.{_≡_, refl, ap, sym, subst, _∙_}
+use mathlib.Core.Bool.{Bool, true, false}
+use mathlib.Core.List.{List, []}
+use native.Mathlib.Omega.{arith}
+use borrow.Author.Tests.{eq-eqb, ne-eqb}
+use lib.ListN.{length, take}
+use lib.Seq.{length-sets, length-take-le}
+use Rattle.wire.specs.Head.{kindOf, bodyOf, broken, headOf}
+use Rattle.settings.specs.Reading.{settingsIn}
+use Rattle.controller.specs.declared.node.Node.{Node}
+use Rattle.controller.specs.declared.node.Started.{Started}
+use Rattle.controller.specs.declared.record.Answer.{Answer}
+use Rattle.controller.specs.Record.{outcome}
+use Rattle.controller.specs.Node.{stateOf, startedWith, answerOf}
+use Rattle.controller.specs.Kept.{Kept}
+use Rattle.drill.specs.Lines.{recordLine, refusedLine, questionLine, settingsLine}
+use Rattle.drill.specs.Turns.{Read, nothing, cut, whole, Step, goesOn, stepped, turned, begunWith, begun}
+use Rattle.drill.specs.Promise.{Lined, readAs, Within, Turned}
+use Rattle.drill.specs.declared.input.Input.{Input}
+use Rattle.drill.specs.declared.input.Input.the-variants.{Nothing, Cut, Whole}
+use Rattle.drill.specs.declared.turn.Turn.{Turn}
+
+abbrev step : Node → List ℕ → Bool → Step
+step n text m = record { node = n; line = text; more = m }
+
+abbrev turn : Node → ℕ → Bool → Turn
+turn n size m = record { node = n; length = size; more = m }
+
+-- A step with no line, and one with a line.
+pub silent : {n : Node} {m : Bool} {old : List ℕ} → Kept n → Turned (step n [] m) old old (turn n 0 m)
+silent k = record { is = refl; room = omega arith; content = refl; kept = k }
+
+pub spoken : {n : Node} {m : Bool} {text old new : List ℕ} {r : ℕ} → Kept n → Lined text old new r → Turned (step n text m) old new (turn n r m)
+spoken {n} {m} k p = record { is = rw (p .size); room = p .room; content = p .content; kept = k }
+
+-- Kind 40, and any other.
+pub question-step : (k : ℕ) (n : Node) (b body : List ℕ) {old new : List ℕ} {r : ℕ} → kindOf b ≡ 40 → body ≡ bodyOf b → Kept n
+    → Lined (questionLine k (stateOf n) body) old new r → Turned (stepped k n b) old new (turn n r true)
+unfolding stepped
+question-step k n b body h e kept p = rw (eq-eqb (kindOf b) 40 h, ← e) (spoken kept p)
+
+other-kind : (k : ℕ) (n : Node) (b : List ℕ) → (kindOf b ≡ 40 → ⊥)
+    → stepped k n b ≡ goesOn (answerOf n (outcome (stateOf n) b 7) .node) (recordLine k (answerOf n (outcome (stateOf n) b 7)))
+unfolding stepped
+other-kind k n b h = rw (ne-eqb (kindOf b) 40 h)
+
+pub record-step : (k : ℕ) (n : Node) (b : List ℕ) {a : Answer} {old new : List ℕ} {r : ℕ} → (kindOf b ≡ 40 → ⊥)
+    → a ≡ answerOf n (outcome (stateOf n) b 7) → Kept (a .node) → Lined (recordLine k a) old new r → Turned (stepped k n b) old new (turn (a .node) r true)
+record-step k n b {a} {old} {new} {r} h e kept p =
+    rw (other-kind k n b h)
+    (subst (λ (x : Answer). Turned (goesOn (x .node) (recordLine k x)) old new (turn (a .node) r true)) e (spoken kept p))
+
+-- Settings taken, and refused.
+pub start-taken : {s : Started} {old : List ℕ} → s .result ≡ 0 → Kept (s .node) → Turned (begunWith s) old old (turn (s .node) 0 true)
+unfolding begunWith
+start-taken {s} h kept = rw (eq-eqb (s .result) 0 h) (silent kept)
+
+pub start-refused : {s : Started} {old new : List ℕ} {r : ℕ} → (s .result ≡ 0 → ⊥) → Kept (s .node) → Lined (settingsLine (s .result)) old new r
+    → Turned (begunWith s) old new (turn (s .node) r false)
+unfolding begunWith
+start-refused {s} h kept p = rw (ne-eqb (s .result) 0 h) (spoken kept p)
+
+-- What was read: nothing, a cut record, a whole one.
+module _ (k : ℕ) (n : Node) (buf : List ℕ) where
+  pub nothing-turn : {read : Input} {old : List ℕ} → read ≡ Nothing → Kept n → Turned (turned k n (readAs read buf)) old old (turn n 0 false)
+  unfolding turned
+  nothing-turn e kept = rw e (silent kept)
+
+  pub cut-turn : {read : Input} {old new : List ℕ} {r : ℕ} → read ≡ Cut → Kept n → Lined (refusedLine k 2) old new r
+      → Turned (turned k n (readAs read buf)) old new (turn n r false)
+  unfolding turned
+  cut-turn e kept p = rw e (spoken kept p)
+
+  pub whole-turn : {read : Input} (end : ℕ) {old new : List ℕ} {t : Turn} → read ≡ Whole end → Turned (stepped k n (take end buf)) old new t
+      → Turned (turned k n (readAs read buf)) old new t
+  unfolding turned
+  whole-turn end e p = rw e p
+
+-- A whole record lies in its buffer.
+pub front-length : {read : Input} (end : ℕ) (buf : List ℕ) → read ≡ Whole end → Within read buf → end ≡ length (take end buf)
+front-length end buf e h = sym (length-take-le end buf (subst (λ (w : Input). Within w buf) e h))
+
+-- A line lies in its buffer.
+pub line-within : {s : Step} {old new : List ℕ} {t : Turn} → length old ≡ 147 → Turned s old new t → t .length ≤ length new
+line-within {s} {old} h p = rw (p .is, p .content, length-sets old 0 (s .line), h) (p .room)
+
+-- The same of settings; no bytes are refused with 2.
+begun-nothing : begun nothing ≡ begunWith (startedWith [])
+unfolding begun settingsIn headOf broken
+begun-nothing = refl
+
+begun-cut : begun cut ≡ begunWith (startedWith [])
+unfolding begun settingsIn headOf broken
+begun-cut = refl
+
+begun-whole : (b : List ℕ) → begun (whole b) ≡ begunWith (startedWith b)
+unfolding begun
+begun-whole b = refl
+
+started-by : (b : List ℕ) (w : Read) {s : Started} {old new : List ℕ} {t : Turn} → begun w ≡ begunWith (startedWith b) → s ≡ startedWith b
+    → Turned (begunWith s) old new t → Turned (begun w) old new t
+started-by b w {s} {old} {new} {t} f q p = subst (λ (x : Step). Turned x old new t) (ap begunWith q ∙ sym f) p
+
+module _ (buf : List ℕ) {read : Input} {s : Started} {old new : List ℕ} {t : Turn} where
+  pub nothing-start : read ≡ Nothing → s ≡ startedWith [] → Turned (begunWith s) old new t → Turned (begun (readAs read buf)) old new t
+  nothing-start e q p = rw e (started-by [] nothing begun-nothing q p)
+
+  pub cut-start : read ≡ Cut → s ≡ startedWith [] → Turned (begunWith s) old new t → Turned (begun (readAs read buf)) old new t
+  cut-start e q p = rw e (started-by [] cut begun-cut q p)
+
+  pub whole-start : (end : ℕ) → read ≡ Whole end → s ≡ startedWith (take end buf) → Turned (begunWith s) old new t
+      → Turned (begun (readAs read buf)) old new t
+  whole-start end e q p = rw e (started-by (take end buf) (whole (take end buf)) (begun-whole (take end buf)) q p)

@@ -1,0 +1,60 @@
+-- Each arm is a case of what was read. Assumes nothing.
+use Rattle.drill.proofs.Stepping.{front-length}
+use lib.ListN.{length-take}
+use native.Mathlib.Omega.{arith}
+use Rattle.drill.proofs.Stepping.{nothing-turn, cut-turn, whole-turn}
+use borrow.Author.Needs.{needs}
+use Rattle.drill.proofs.turn.take_turn.Statement.{statement}
+use Rattle.drill.proofs.turn.take_turn.Tie as tie
+
+enum-told : tie.Need-enum-told
+enum-told c = search needs
+
+enum-told-2 : tie.Need-enum-told-2
+enum-told-2 c = search needs
+
+put-refused-requires : tie.Need-put-refused-requires
+put-refused-requires c κs = search needs
+
+enum-known-read : tie.Need-enum-known-read
+enum-known-read c = search needs
+
+slice-aggregate-step : tie.Need-slice-aggregate-step
+slice-aggregate-step c =
+    let entry = c .before .before .before .before .before in
+    let read = c .before .before .read in
+    front-length _ (entry .args .buf .now) (read .given .1) (entry .pre .1)
+
+step-requires : tie.Need-step-requires
+step-requires c κs = search needs
+
+returns : tie.Need-returns
+returns c =
+    let entry = c .before .before .before in
+    nothing-turn (entry .args .number) (entry .args .n) (entry .args .buf .now) (c .enum-told .given .1) (entry .pre .0)
+
+returns-2 : tie.Need-returns-2
+returns-2 c =
+    let entry = c .before .before .before .before .before in
+    let enum-told2 = c .before .before .enum-told2 in
+    cut-turn (entry .args .number) (entry .args .n) (entry .args .buf .now) (enum-told2 .given .1) (entry .pre .0) (c .put-refused .ensures)
+
+returns-3 : tie.Need-returns-3
+returns-3 c =
+    let entry = c .before .before .before .before .before .before .before in
+    let read = c .before .before .before .before .read in
+    whole-turn (entry .args .number) (entry .args .n) (entry .args .buf .now) _ (read .given .1) (c .step .ensures)
+
+pub take-turn-spec : {M : Type 1} → statement M
+take-turn-spec =
+    tie.close
+    (tie.spec
+    enum-told
+    enum-told-2
+    put-refused-requires
+    enum-known-read
+    slice-aggregate-step
+    step-requires
+    returns
+    returns-2
+    returns-3)
