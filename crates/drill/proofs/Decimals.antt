@@ -1,7 +1,6 @@
 -- The decimal text is the fewest digits that hold the number, as the kit's `io` counts and spells them. Assumes nothing.
 use Prim.Native.Nat.{ℕ, zero, suc, _+_, _-_, _*_, _/_, _%_, _^_, _≤_, _<_}
 use mathlib.Core.Path.{_≡_, refl}
-use mathlib.Core.List.{List, [], _∷_, _++_}
 use native.Mathlib.Omega.{arith}
 use native.Mathlib.Nat.{pow-suc, suc-add, lt-of-not-le}
 use borrow.Author.Tests.{lt-ltb}

@@ -25,9 +25,12 @@ pub decimal-most : decimal 18446744073709551615 ≡ ascii "18446744073709551615"
 unfolding decimal ascii
 decimal-most = refl
 
--- "Settings 11 00 20 00 02 02 00 00 00 00 01 00 00 00 32 0A 02 0A 00".
+-- "Settings 11 00 20 00 02 02 00 00 00 00 01 00 00 00 32 0A 02 0A 00", and with any level.
+abbrev settingsAt : ℕ → List ℕ
+settingsAt level = 0x11 ∷ 0 ∷ 0x20 ∷ 0 ∷ level ∷ 2 ∷ 0 ∷ 0 ∷ 0 ∷ 0 ∷ 1 ∷ 0 ∷ 0 ∷ 0 ∷ 0x32 ∷ 0x0a ∷ 2 ∷ 0x0a ∷ 0 ∷ []
+
 abbrev settings : List ℕ
-settings = 0x11 ∷ 0 ∷ 0x20 ∷ 0 ∷ 2 ∷ 2 ∷ 0 ∷ 0 ∷ 0 ∷ 0 ∷ 1 ∷ 0 ∷ 0 ∷ 0 ∷ 0x32 ∷ 0x0a ∷ 2 ∷ 0x0a ∷ 0 ∷ []
+settings = settingsAt 2
 
 abbrev link : ℕ → List ℕ
 link status = 4 ∷ 0 ∷ 2 ∷ 0 ∷ 0 ∷ status ∷ []
@@ -57,13 +60,12 @@ pub worked : output (settings ++ link 2 ++ link 0 ++ report 7 ++ report 135 ++ r
 unfolding output rows settingsIn headOf broken fullIn fieldsOf inRange addressAt tableOf ticksOf blank reportBytes
 worked = refl
 
--- A question, to an address.
-abbrev ask : List ℕ → List ℕ
-ask address = (8 ∷ 0 ∷ 40 ∷ 0 ∷ []) ++ address
+-- A question, to an address with this first byte and this last.
+abbrev ask : ℕ → ℕ → List ℕ
+ask first last = 8 ∷ 0 ∷ 40 ∷ 0 ∷ first ∷ 0 ∷ 0 ∷ 0 ∷ 0 ∷ last ∷ []
 
--- Questions: of a station that was heard, of one that was not, with an odd first byte, with a body of 1; then a record of another kind, and the end.
-pub asked : output (settings ++ report 7 ++ ask (2 ∷ 0 ∷ 0 ∷ 0 ∷ 0 ∷ 2 ∷ []) ++ ask (2 ∷ 0 ∷ 0 ∷ 0 ∷ 0 ∷ 3 ∷ []) ++ ask (1 ∷ 0 ∷ 0 ∷ 0 ∷ 0 ∷ 2 ∷ [])
-    ++ (3 ∷ 0 ∷ 40 ∷ 0 ∷ 9 ∷ []) ++ (2 ∷ 0 ∷ 16 ∷ 0 ∷ []))
+-- Questions: of a station that was heard, of one that was not, with an odd first byte, with a body of 1; then a kind that is no event.
+pub asked : output (settings ++ report 7 ++ ask 2 2 ++ ask 2 3 ++ ask 1 2 ++ (3 ∷ 0 ∷ 40 ∷ 0 ∷ 9 ∷ []) ++ (2 ∷ 0 ∷ 16 ∷ 0 ∷ []))
     ≡ rows ("1 0 0 0 0 1 0" ∷ "2 way 0" ∷ "3 way 3" ∷ "4 4" ∷ "5 4" ∷ "6 3 0 0 0 1 0" ∷ [])
 unfolding output rows settingsIn headOf broken fullIn fieldsOf inRange addressAt tableOf ticksOf blank reportBytes
 asked = refl
@@ -90,10 +92,10 @@ pub settings-cut : output (8 ∷ 0 ∷ 33 ∷ []) ≡ rows ("settings 2" ∷ [])
 unfolding output rows
 settings-cut = refl
 
-pub settings-kind : output (ask (2 ∷ 0 ∷ 0 ∷ 0 ∷ 0 ∷ 2 ∷ []) ++ tick) ≡ rows ("settings 3" ∷ [])
+pub settings-kind : output (ask 2 2 ++ tick) ≡ rows ("settings 3" ∷ [])
 unfolding output rows settingsIn headOf broken
 settings-kind = refl
 
-pub settings-range : output ((0x11 ∷ 0 ∷ 0x20 ∷ 0 ∷ 3 ∷ 2 ∷ 0 ∷ 0 ∷ 0 ∷ 0 ∷ 1 ∷ 0 ∷ 0 ∷ 0 ∷ 0x32 ∷ 0x0a ∷ 2 ∷ 0x0a ∷ 0 ∷ []) ++ tick) ≡ rows ("settings 4" ∷ [])
+pub settings-range : output (settingsAt 3 ++ tick) ≡ rows ("settings 4" ∷ [])
 unfolding output rows settingsIn headOf broken fullIn fieldsOf inRange addressAt tableOf ticksOf blank reportBytes
 settings-range = refl

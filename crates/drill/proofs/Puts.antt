@@ -1,15 +1,15 @@
 -- Bytes stored one after the other are those bytes joined. Assumes nothing.
 use Prim.Native.Nat.{ℕ, suc, _+_, _^_, _≤_, _<_}
-use mathlib.Core.Path.{_≡_, refl, ap, sym, _∙_, subst}
-use mathlib.Core.List.{List, [], _∷_, _++_, append-assoc}
+use mathlib.Core.Path.{_≡_, ap, sym, _∙_, subst}
+use mathlib.Core.List.{List, [], _∷_, _++_}
 use native.Mathlib.Nat.{add-zero, add-suc, suc-add}
 use native.Mathlib.Numerals.{add-one}
 use native.Mathlib.Omega.{arith}
-use lib.ListN.{length, set, take, drop, getD, length-append}
-use lib.Seq.{sets, sets-eq, take-suc, take-all, length-take-le}
+use lib.ListN.{length, set, take, getD, length-append}
+use lib.Seq.{sets, take-suc, take-all, length-take-le}
 use Rattle.io.specs.Digits.{digits, Fewest}
 use Rattle.drill.specs.Text.{decimal}
-use Rattle.drill.specs.Promise.{Put, Lined}
+use Rattle.drill.specs.Promise.{Put, Number, Lined}
 use Rattle.drill.proofs.Decimals.{decimal-digits, at-most-20}
 
 pub sets-append : (l : List ℕ) (i : ℕ) (a b : List ℕ) → sets (sets l i a) (i + length a) b ≡ sets l i (a ++ b)
@@ -35,7 +35,7 @@ then {a} {b} {at} {to} {r} {old} {mid} {new} p q = record {
 -- A word that spells a number, and a byte.
 pub number-put : {n at to r b : ℕ} {old mid new : List ℕ} (text : List ℕ) (k : ℕ) → at + 21 ≤ 147 → n < 2 ^ 64 → Fewest 10 1 n k
     → take k text ≡ digits 10 k n → k ≡ length (take k text) → Put (take k text) at old mid to → Put (b ∷ []) to mid new r
-    → Put (decimal n ++ (b ∷ [])) at old new r × (r ≤ at + 21)
+    → Number n b at old new r
 number-put {n} {at} {to} {r} {b} {old} {mid} {new} text k fits small fewest spelt long p q =
     let few : k ≤ 20 = at-most-20 small fewest in
     let e : take k text ≡ decimal n = spelt ∙ sym (decimal-digits n k fewest) in

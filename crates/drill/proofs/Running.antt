@@ -1,6 +1,6 @@
 -- The turns of a run, one after the other. Assumes nothing.
-use Prim.Native.Nat.{ℕ, suc, _+_, _<_, _≤_}
-use mathlib.Core.Path.{_≡_, refl, ap, sym, _∙_, subst}
+use Prim.Native.Nat.{ℕ, _+_, _<_, _≤_}
+use mathlib.Core.Path.{_≡_, refl, ap, sym, _∙_}
 use mathlib.Core.Bool.{Bool, true, false, true≢false}
 use mathlib.Core.List.{List, [], _∷_}
 use native.Mathlib.Omega.{arith}
@@ -9,7 +9,7 @@ use lib.ListN.{length}
 use Rattle.controller.specs.declared.node.Node.{Node}
 use Rattle.controller.specs.Kept.{Kept}
 use Rattle.drill.specs.Turns.{Read, turned, passed}
-use Rattle.drill.specs.Promise.{turnOf, Taken, WentOn, Ran}
+use Rattle.drill.specs.Promise.{Taken, WentOn, Ran}
 use Rattle.drill.specs.declared.turn.Turn.{Turn}
 
 -- The greatest number of 64 bits.

@@ -17,16 +17,13 @@ use Rattle.controller.specs.Node.{stateOf, startedWith, answerOf}
 use Rattle.controller.specs.Kept.{Kept}
 use Rattle.drill.specs.Lines.{recordLine, refusedLine, questionLine, settingsLine}
 use Rattle.drill.specs.Turns.{Read, nothing, cut, whole, Step, goesOn, stepped, turned, begunWith, begun}
-use Rattle.drill.specs.Promise.{Lined, readAs, Within, Turned}
+use Rattle.drill.specs.Promise.{Lined, readAs, Within, turn, Turned}
 use Rattle.drill.specs.declared.input.Input.{Input}
 use Rattle.drill.specs.declared.input.Input.the-variants.{Nothing, Cut, Whole}
 use Rattle.drill.specs.declared.turn.Turn.{Turn}
 
 abbrev step : Node → List ℕ → Bool → Step
 step n text m = record { node = n; line = text; more = m }
-
-abbrev turn : Node → ℕ → Bool → Turn
-turn n size m = record { node = n; length = size; more = m }
 
 -- A step with no line, and one with a line.
 pub silent : {n : Node} {m : Bool} {old : List ℕ} → Kept n → Turned (step n [] m) old old (turn n 0 m)

@@ -1,13 +1,15 @@
 -- The promises of the drill's functions. No rule stands here.
 use Prim.Native.Nat.{ℕ, _+_, _≤_}
 use mathlib.Core.Path.{_≡_}
-use mathlib.Core.Bool.{true}
-use mathlib.Core.List.{List, [], _∷_}
+use mathlib.Core.Bool.{Bool, true}
+use mathlib.Core.List.{List, [], _∷_, _++_}
 use lib.ListN.{length, take}
 use lib.Seq.{sets}
 use Rattle.controller.specs.declared.node.Node.{Node}
 use Rattle.controller.specs.Kept.{Kept}
+use Rattle.drill.specs.Text.{space, decimal}
 use Rattle.drill.specs.Turns.{Read, nothing, cut, whole, Step, turned, passed}
+use Rattle.drill.specs.Input.{firstOf}
 use Rattle.drill.specs.declared.input.Input.{Input}
 use Rattle.drill.specs.declared.input.Input.the-variants.{Nothing, Cut, Whole}
 use Rattle.drill.specs.declared.turn.Turn.{Turn}
@@ -17,6 +19,13 @@ use Rattle.drill.specs.declared.Ended.{Ended}
 pub record Put (bytes : List ℕ) (at : ℕ) (old new : List ℕ) (r : ℕ) : Type 0 where
   pub next : r ≡ at + length bytes
   pub content : new ≡ sets old at bytes
+
+-- A number with a byte behind it, and two numbers with a space behind each.
+abbrev pub Number : ℕ → ℕ → ℕ → List ℕ → List ℕ → ℕ → Type 0
+Number n b at old new r = Put (decimal n ++ (b ∷ [])) at old new r × (r ≤ at + 21)
+
+abbrev pub Pair : ℕ → ℕ → ℕ → List ℕ → List ℕ → ℕ → Type 0
+Pair m n at old new r = Put (decimal m ++ (space ∷ []) ++ (decimal n ++ (space ∷ []))) at old new r × (r ≤ at + 42)
 
 -- A line at the front of a buffer of 147 bytes, which has room for it; the answer is its length.
 pub record Lined (text old new : List ℕ) (r : ℕ) : Type 0 where
@@ -35,8 +44,18 @@ Within Nothing buf = Unit {0}
 Within Cut buf = Unit {0}
 Within (Whole end) buf = end ≤ length buf
 
+-- A whole record is the first one in its buffer.
+abbrev pub First : Input → List ℕ → Type 0
+First Nothing buf = Unit {0}
+First Cut buf = Unit {0}
+First (Whole end) buf = firstOf buf ≡ whole (take end buf)
+
+abbrev pub turn : Node → ℕ → Bool → Turn
+turn n size m = record { node = n; length = size; more = m }
+
+-- What a step gives beside its line.
 abbrev pub turnOf : Step → Turn
-turnOf s = record { node = s .node; length = length (s .line); more = s .more }
+turnOf s = turn (s .node) (length (s .line)) (s .more)
 
 -- A step: node, length of the line and whether the drill goes on in one equation, and the whole content of the lent line, which was `old` and is `new`.
 pub record Turned (s : Step) (old new : List ℕ) (r : Turn) : Type 0 where

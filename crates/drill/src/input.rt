@@ -2,7 +2,7 @@
 use libc::STDIN_FILENO;
 ghost use mathlib.Core.Path.{_≡_};
 ghost use lib.ListN.{length};
-ghost use Rattle.drill.specs.Promise.{Within};
+ghost use Rattle.drill.specs.Promise.{Within, First};
 
 // What was read: nothing, as the input has ended; a record that is cut or has a wrong length; a whole one, up to an end in the buffer.
 pub enum Input {
@@ -14,7 +14,7 @@ pub enum Input {
 // Reads a record to the front of the buffer.
 pub(crate) fn read_record(buf: &mut [u8]) -> Input
     requires { ⌜ length (now buf) ≡ 1035 ⌝ }
-    ensures { λ r. ⌜ Within r (now (buf .exit)) ⌝ }
+    ensures { λ r. ⌜ Within r (now (buf .exit)) × First r (now (buf .exit)) ⌝ }
 {
     let got = io::read_full(STDIN_FILENO, &mut buf[..2]);
     if got == 0 {

@@ -3,14 +3,13 @@ use controller::Answer;
 use controller::Node;
 ghost use mathlib.Core.Path.{_≡_};
 ghost use mathlib.Core.Bool.{cond};
-ghost use mathlib.Core.List.{[], _∷_, _++_};
+ghost use mathlib.Core.List.{[], _∷_};
 ghost use Prim.Native.Nat.{_+_, _<_, _≤_};
 ghost use lib.ListN.{length};
 ghost use Rattle.controller.specs.Kept.{Kept};
 ghost use Rattle.controller.specs.Node.{stateOf};
-ghost use Rattle.drill.specs.Text.{decimal};
 ghost use Rattle.drill.specs.Lines.{recordLine, refusedLine, wayLine, questionLine, settingsLine};
-ghost use Rattle.drill.specs.Promise.{Put, Lined};
+ghost use Rattle.drill.specs.Promise.{Put, Number, Pair, Lined};
 
 // A byte at a place.
 fn put(line: &mut [u8; 147], at: usize, b: u8) -> usize
@@ -36,7 +35,7 @@ fn put_word(line: &mut [u8; 147], at: usize, word: &[u8]) -> usize
 // A number and the byte behind it.
 fn put_number(line: &mut [u8; 147], at: usize, n: u64, b: u8) -> usize
     requires { ⌜ at + 21 ≤ 147 ⌝ }
-    ensures { λ r. ⌜ Put (decimal n ++ (b ∷ [])) at (now (line .entry)) (now (line .exit)) r × (r ≤ at + 21) ⌝ }
+    ensures { λ r. ⌜ Number n b at (now (line .entry)) (now (line .exit)) r ⌝ }
 {
     let mut text = [0u8; 20];
     let k = io::decimal(n, &mut text);
@@ -94,16 +93,26 @@ fn written(wrote: bool) -> u64
     0
 }
 
+// West request, east request, each with a space behind it.
+fn put_requests(line: &mut [u8; 147], at: usize, west: u8, east: u8) -> usize
+    requires { ⌜ at + 42 ≤ 147 ⌝ }
+    ensures { λ r. ⌜ Pair west east at (now (line .entry)) (now (line .exit)) r ⌝ }
+{
+    let a = put_number(line, at, west as u64, b' ');
+    put_number(line, a, east as u64, b' ')
+}
+
 // A record: number, result, west request, east request, own sequence, stations, 1 if a report was written else 0.
 pub(crate) fn put_record(line: &mut [u8; 147], number: u64, a: Answer) -> usize
     requires { ⌜ Kept (a .node) ⌝ }
     ensures { λ r. ⌜ Lined (recordLine number a) (now (line .entry)) (now (line .exit)) r ⌝ }
 {
     let n = a.node;
+    let west = controller::west_request(n);
+    let east = controller::east_request(n);
     let at = put_number(line, 0, number, b' ');
     let at = put_number(line, at, a.result as u64, b' ');
-    let at = put_number(line, at, controller::west_request(n) as u64, b' ');
-    let at = put_number(line, at, controller::east_request(n) as u64, b' ');
+    let at = put_requests(line, at, west, east);
     let at = put_number(line, at, controller::own_sequence(n) as u64, b' ');
     let at = put_number(line, at, controller::station_count(n) as u64, b' ');
     put_number(line, at, written(a.wrote), b'\n')

@@ -3,15 +3,31 @@ use crate::input::Input;
 use crate::line;
 use controller::Node;
 use controller::Started;
+ghost use mathlib.Core.Path.{_≡_};
+ghost use mathlib.Core.Bool.{true, false};
 ghost use Rattle.controller.specs.Kept.{Kept};
 ghost use Rattle.drill.specs.Turns.{stepped, turned, begunWith, begun};
-ghost use Rattle.drill.specs.Promise.{Within, readAs, Turned};
+ghost use Rattle.drill.specs.Promise.{Within, readAs, turn, Turned};
 
 // The node after a step, the length of the line that it gives, and whether the drill goes on.
 pub struct Turn {
     pub node: Node,
     pub length: usize,
     pub more: bool,
+}
+
+fn goes_on(node: Node, length: usize) -> Turn
+    ensures { λ r. ⌜ r ≡ turn node length true ⌝ }
+{
+    let more = true;
+    Turn { node, length, more }
+}
+
+fn ends(node: Node, length: usize) -> Turn
+    ensures { λ r. ⌜ r ≡ turn node length false ⌝ }
+{
+    let more = false;
+    Turn { node, length, more }
 }
 
 // One whole record: kind 40 is the drill's own question, any other is the controller's.
@@ -21,21 +37,13 @@ fn step(n: Node, number: u64, bytes: &[u8], line: &mut [u8; 147]) -> Turn
 {
     if wire::word_at(bytes, 2) == 40 {
         let length = line::put_question(line, number, n, wire::body(bytes));
-        return Turn {
-            node: n,
-            length,
-            more: true,
-        };
+        return goes_on(n, length);
     }
     let mut out = [0u8; 7];
     let a = controller::take_record(n, bytes, &mut out);
-    let node = a.node;
+    let after = a.node;
     let length = line::put_record(line, number, a);
-    Turn {
-        node,
-        length,
-        more: true,
-    }
+    goes_on(after, length)
 }
 
 // What was read at a number: a cut record and the end of the input end the drill.
@@ -44,19 +52,8 @@ pub(crate) fn take_turn(n: Node, number: u64, read: Input, buf: &[u8], line: &mu
     ensures { λ r. ⌜ Turned (turned number n (readAs read (now (buf .entry)))) (now (line .entry)) (now (line .exit)) r ⌝ }
 {
     match read {
-        Input::Nothing => Turn {
-            node: n,
-            length: 0,
-            more: false,
-        },
-        Input::Cut => {
-            let length = line::put_refused(line, number, 2);
-            Turn {
-                node: n,
-                length,
-                more: false,
-            }
-        }
+        Input::Nothing => ends(n, 0),
+        Input::Cut => ends(n, line::put_refused(line, number, 2)),
         Input::Whole(end) => step(n, number, &buf[..end], line),
     }
 }
@@ -66,20 +63,10 @@ fn tell_start(s: Started, line: &mut [u8; 147]) -> Turn
     requires { ⌜ Kept (s .node) ⌝ }
     ensures { λ r. ⌜ Turned (begunWith s) (now (line .entry)) (now (line .exit)) r ⌝ }
 {
-    let node = s.node;
     if s.result == 0 {
-        return Turn {
-            node,
-            length: 0,
-            more: true,
-        };
+        return goes_on(s.node, 0);
     }
-    let length = line::put_settings(line, s.result);
-    Turn {
-        node,
-        length,
-        more: false,
-    }
+    ends(s.node, line::put_settings(line, s.result))
 }
 
 // What was read as settings; where there is no whole record, a start of no bytes, which is refused with 2.

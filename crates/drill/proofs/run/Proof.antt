@@ -1,6 +1,5 @@
 -- Before each test of the loop the node is that after the reads so far. Assumes nothing.
 use Prim.Native.Nat.{_-_}
-use native.Mathlib.Omega.{arith}
 use borrow.Author.Needs.{needs}
 use Rattle.drill.proofs.Running.{Passing, at-first, one-more, out-of-numbers, at-the-end}
 use Rattle.drill.proofs.run.Statement.{statement}

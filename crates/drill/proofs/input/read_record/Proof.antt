@@ -1,5 +1,10 @@
+-- The length was tested, and reading what follows it leaves it as it was. Assumes nothing.
+use Prim.Native.Nat.{ℕ, _+_, _-_}
+use mathlib.Core.List.{List, _++_}
+use lib.ListN.{drop}
+use Rattle.drill.proofs.Firsts.{whole-first, both}
 -- The two parts lie within the buffer of 1,035 bytes. Assumes nothing.
-use lib.ListN.{length-take}
+use lib.ListN.{length-take, length-append, length-drop}
 use native.Mathlib.Omega.{arith}
 use borrow.Author.Needs.{needs}
 use Rattle.drill.proofs.input.read_record.Statement.{statement}
@@ -69,7 +74,10 @@ same-length-6 : tie.Need-same-length-6
 same-length-6 c = search needs
 
 returns-6 : tie.Need-returns-6
-returns-6 c = search needs
+returns-6 c = let n = (c .before .before .before .before .before .before .before .word-at .result) in
+    let head : List ℕ = (c .before .before .before .before .before .before .before .before .before .before .before .before .before .read-full .last .1 .0) ++ drop 2 ((c .before .before .before .before .before .before .before .before .before .before .before .before .before .before .before .before .args .buf .now)) in
+    let rest : List ℕ = (c .before .before .before .read-full2 .last .1 .0) ++ drop (n + 2 - 2) (drop 2 head) in
+    both (search needs) (λ h. whole-first head rest n (c .before .before .before .before .before .before .before .word-at .ensures) (search needs) (search needs) h (simp (length-append, length-drop) (omega arith)))
 
 pub read-record-spec : {M : Type 1} → statement M
 read-record-spec =

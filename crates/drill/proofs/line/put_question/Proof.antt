@@ -1,12 +1,8 @@
 -- Each return is a case of a question's line. Assumes nothing.
-use mathlib.Core.Path.{ap, _∙_, sym, subst}
-use Prim.Native.Nat.{ℕ}
-use mathlib.Core.List.{List}
+use mathlib.Core.Path.{ap, _∙_, sym}
 use Rattle.wire.specs.Fields.{oddFirst}
 use Rattle.ways.specs.Choice.{number}
-use Rattle.controller.specs.Node.{stateOf, steered}
-use Rattle.drill.specs.Lines.{wayLine}
-use Rattle.drill.specs.Promise.{Lined}
+use Rattle.controller.specs.Node.{stateOf}
 use Rattle.drill.proofs.Questions.{wrong-length, odd-address, way-line}
 use borrow.Author.Needs.{needs}
 use Rattle.drill.proofs.line.put_question.Statement.{statement}

@@ -2,7 +2,7 @@
 use Prim.Native.Nat.{_≤_, _-_}
 use mathlib.Core.Path.{_≡_}
 use lib.ListN.{length, take}
-use lib.Seq.{sets, take-all}
+use lib.Seq.{sets}
 use borrow.Author.Needs.{needs}
 use Rattle.drill.proofs.Puts.{word-more, word-put}
 use Rattle.drill.proofs.line.put_word.Statement.{statement}

@@ -1,8 +1,5 @@
 -- Each arm is a case of what was read. Assumes nothing.
-use Rattle.drill.proofs.Stepping.{front-length}
-use lib.ListN.{length-take}
-use native.Mathlib.Omega.{arith}
-use Rattle.drill.proofs.Stepping.{nothing-turn, cut-turn, whole-turn}
+use Rattle.drill.proofs.Stepping.{nothing-turn, cut-turn, whole-turn, front-length}
 use borrow.Author.Needs.{needs}
 use Rattle.drill.proofs.turn.take_turn.Statement.{statement}
 use Rattle.drill.proofs.turn.take_turn.Tie as tie
@@ -10,11 +7,17 @@ use Rattle.drill.proofs.turn.take_turn.Tie as tie
 enum-told : tie.Need-enum-told
 enum-told c = search needs
 
+ends-requires : tie.Need-ends-requires
+ends-requires c κs = search needs
+
 enum-told-2 : tie.Need-enum-told-2
 enum-told-2 c = search needs
 
 put-refused-requires : tie.Need-put-refused-requires
 put-refused-requires c κs = search needs
+
+ends-requires-2 : tie.Need-ends-requires-2
+ends-requires-2 c κs = search needs
 
 enum-known-read : tie.Need-enum-known-read
 enum-known-read c = search needs
@@ -30,14 +33,15 @@ step-requires c κs = search needs
 
 returns : tie.Need-returns
 returns c =
-    let entry = c .before .before .before in
-    nothing-turn (entry .args .number) (entry .args .n) (entry .args .buf .now) (c .enum-told .given .1) (entry .pre .0)
+    let entry = c .before .before .before .before in
+    rw (c .ends .ensures) (nothing-turn (entry .args .number) (entry .args .n) (entry .args .buf .now) (c .before .enum-told .given .1) (entry .pre .0))
 
 returns-2 : tie.Need-returns-2
 returns-2 c =
-    let entry = c .before .before .before .before .before in
-    let enum-told2 = c .before .before .enum-told2 in
-    cut-turn (entry .args .number) (entry .args .n) (entry .args .buf .now) (enum-told2 .given .1) (entry .pre .0) (c .put-refused .ensures)
+    let entry = c .before .before .before .before .before .before in
+    let enum-told2 = c .before .before .before .enum-told2 in
+    rw (c .ends2 .ensures) (cut-turn (entry .args .number) (entry .args .n) (entry .args .buf .now) (enum-told2 .given .1) (entry .pre .0)
+    (c .before .put-refused .ensures))
 
 returns-3 : tie.Need-returns-3
 returns-3 c =
@@ -50,8 +54,10 @@ take-turn-spec =
     tie.close
     (tie.spec
     enum-told
+    ends-requires
     enum-told-2
     put-refused-requires
+    ends-requires-2
     enum-known-read
     slice-aggregate-step
     step-requires
