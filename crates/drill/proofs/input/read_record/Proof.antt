@@ -74,10 +74,15 @@ same-length-6 : tie.Need-same-length-6
 same-length-6 c = search needs
 
 returns-6 : tie.Need-returns-6
-returns-6 c = let n = (c .before .before .before .before .before .before .before .word-at .result) in
-    let head : List ℕ = (c .before .before .before .before .before .before .before .before .before .before .before .before .before .read-full .last .1 .0) ++ drop 2 ((c .before .before .before .before .before .before .before .before .before .before .before .before .before .before .before .before .args .buf .now)) in
-    let rest : List ℕ = (c .before .before .before .read-full2 .last .1 .0) ++ drop (n + 2 - 2) (drop 2 head) in
-    both (search needs) (λ h. whole-first head rest n (c .before .before .before .before .before .before .before .word-at .ensures) (search needs) (search needs) h (simp (length-append, length-drop) (omega arith)))
+returns-6 c =
+    let entry = c .before .before .before .before .before .before .before .before .before .before .before .before .before .before .before .before in
+    let read-full = c .before .before .before .before .before .before .before .before .before .before .before .before .before .read-full in
+    let word-at = c .before .before .before .before .before .before .before .word-at in
+    let n = word-at .result in
+    let head : List ℕ = read-full .last .1 .0 ++ drop 2 (entry .args .buf .now) in
+    let rest : List ℕ = c .before .before .before .read-full2 .last .1 .0 ++ drop (n + 2 - 2) (drop 2 head) in
+    both (search needs)
+    (λ h. whole-first head rest n (word-at .ensures) (search needs) (search needs) h (simp (length-append, length-drop) (omega arith)))
 
 pub read-record-spec : {M : Type 1} → statement M
 read-record-spec =
