@@ -5,4 +5,5 @@ pub mod Records
 pub mod Firsts
 pub mod Stepping
 pub mod Running
+pub mod OneLines
 pub mod Examples

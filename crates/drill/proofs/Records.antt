@@ -23,13 +23,13 @@ seven : (k a b c d e f : ℕ)
 unfolding line
 seven k a b c d e f = simp append-assoc
 
-pub record-lined : (k : ℕ) (a : Answer) (w e q m x : ℕ) {r1 r2 r4 r5 r6 r7 : ℕ} {l0 l1 l2 l4 l5 l6 l7 : List ℕ}
+pub record-lined : (k : ℕ) (a : Answer) (w e q m x : ℕ) {r1 r2 r3 r4 r5 r6 : ℕ} {l0 l1 l2 l3 l4 l5 l6 : List ℕ}
     → w ≡ westRequest (stateOf (a .node)) → e ≡ eastRequest (stateOf (a .node)) → q ≡ stateOf (a .node) .pacer .sequence
     → m ≡ length (stateOf (a .node) .stations) → x ≡ cond (a .wrote) 1 0
-    → Number k 32 0 l0 l1 r1 → Number (a .result) 32 r1 l1 l2 r2 → Pair w e r2 l2 l4 r4 → Number q 32 r4 l4 l5 r5
-    → Number m 32 r5 l5 l6 r6 → Number x 10 r6 l6 l7 r7
-    → Lined (recordLine k a) l0 l7 r7
+    → Number k 32 0 l0 l1 r1 → Number (a .result) 32 r1 l1 l2 r2 → Pair w e r2 l2 l3 r3 → Number q 32 r3 l3 l4 r4
+    → Number m 32 r4 l4 l5 r5 → Number x 10 r5 l5 l6 r6
+    → Lined (recordLine k a) l0 l6 r6
 unfolding recordLine
-record-lined k a w e q m x ew ee eq em ex p1 p2 p4 p5 p6 p7 =
-    lined (then (then (then (then (then (p1 .0) (p2 .0)) (p4 .0)) (p5 .0)) (p6 .0)) (p7 .0))
+record-lined k a w e q m x ew ee eq em ex p1 p2 p3 p4 p5 p6 =
+    lined (then (then (then (then (then (p1 .0) (p2 .0)) (p3 .0)) (p4 .0)) (p5 .0)) (p6 .0))
     (seven k (a .result) w e q m x ∙ rw (ew, ee, eq, em, ex)) (omega arith)

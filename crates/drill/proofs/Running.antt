@@ -1,14 +1,14 @@
 -- The turns of a run, one after the other. Assumes nothing.
-use Prim.Native.Nat.{ℕ, _+_, _<_, _≤_}
+use Prim.Native.Nat.{ℕ, suc, _+_, _<_, _≤_}
 use mathlib.Core.Path.{_≡_, refl, ap, sym, _∙_}
-use mathlib.Core.Bool.{Bool, true, false, true≢false}
-use mathlib.Core.List.{List, [], _∷_}
+use mathlib.Core.Bool.{Bool, true, false, cond, true≢false}
+use mathlib.Core.List.{List, [], _∷_, _++_, append-assoc}
 use native.Mathlib.Omega.{arith}
 use native.Mathlib.Numerals.{add-one}
 use lib.ListN.{length}
 use Rattle.controller.specs.declared.node.Node.{Node}
 use Rattle.controller.specs.Kept.{Kept}
-use Rattle.drill.specs.Turns.{Read, turned, passed}
+use Rattle.drill.specs.Turns.{Read, turned, told, passed, linesOf, inOrder}
 use Rattle.drill.specs.Promise.{Taken, WentOn, Ran}
 use Rattle.drill.specs.declared.turn.Turn.{Turn}
 
@@ -56,3 +56,12 @@ out-of-numbers p h = record { reads = p .reads; counted = p .counted; is = p .mo
 
 pub at-the-end : {start n : Node} {k : ℕ} {more : Bool} → Passing start n k more → more ≡ false → Ran start (record { number = k; more = more })
 at-the-end p h = record { reads = p .reads; counted = p .counted; is = p .more-is; on = p .on; over = λ e. absurd (true≢false (sym e ∙ h)) }
+
+-- The lines of the steps of a run are the text of its reads.
+pub text-of-run : (n : Node) (l m : List Read) → WentOn n l
+    → told 1 n (inOrder l m) ≡ linesOf n l ++ cond (passed n l .more) (told (suc (length l)) (passed n l .node) m) []
+unfolding told linesOf inOrder passed
+text-of-run n [] m on = refl
+text-of-run n (w ∷ l) m on =
+    text-of-run n l (w ∷ m) (on .1) ∙ rw (on .0)
+    (sym (append-assoc (linesOf n l) (passed n (w ∷ l) .line) (cond (passed n (w ∷ l) .more) (told (suc (suc (length l))) (passed n (w ∷ l) .node) m) [])))

@@ -1,12 +1,12 @@
 -- The cases of a step, each from the line that was put. Assumes nothing.
-use Prim.Native.Nat.{ℕ, _≤_}
+use Prim.Native.Nat.{ℕ, _+_, _≤_}
 use mathlib.Core.Path.{_≡_, refl, ap, sym, subst, _∙_}
 use mathlib.Core.Bool.{Bool, true, false}
 use mathlib.Core.List.{List, []}
 use native.Mathlib.Omega.{arith}
 use borrow.Author.Tests.{eq-eqb, ne-eqb}
-use lib.ListN.{length, take}
-use lib.Seq.{length-sets, length-take-le}
+use lib.ListN.{length, take, drop}
+use lib.Seq.{length-sets, length-take-le, sets-eq, take-at}
 use Rattle.wire.specs.Head.{kindOf, bodyOf, broken, headOf}
 use Rattle.settings.specs.Reading.{settingsIn}
 use Rattle.controller.specs.declared.node.Node.{Node}
@@ -110,3 +110,10 @@ module _ (buf : List ℕ) {read : Input} {s : Started} {old new : List ℕ} {t :
   pub whole-start : (end : ℕ) → read ≡ Whole end → s ≡ startedWith (take end buf) → Turned (begunWith s) old new t
       → Turned (begun (readAs read buf)) old new t
   whole-start end e q p = rw e (started-by (take end buf) (whole (take end buf)) (begun-whole (take end buf)) q p)
+
+-- What is handed on to be written is the line of the step, and all of it.
+pub front-is-line : {s : Step} {old new : List ℕ} {t : Turn} → length old ≡ 147 → Turned s old new t → take (t .length) new ≡ s .line
+front-is-line {s} {old} h p =
+    let room : 0 + length (s .line) ≤ length old = rw h (omega (arith, p .room)) in
+    rw (p .is, p .content, sets-eq (s .line) old 0 room)
+    (take-at (s .line) (drop (0 + length (s .line)) old) (length (s .line)) refl)

@@ -2,6 +2,7 @@
 use Prim.Native.Nat.{ℕ, zero, suc, _+_, _/_, _%_}
 use Prim.Native.Char.{code}
 use Prim.Native.String.{String, [] as empty, _∷_ as _then_}
+use mathlib.Core.Path.{_≡_}
 use mathlib.Core.List.{List, [], _∷_, _++_}
 
 -- The codes of a text.
@@ -41,3 +42,14 @@ unfoldable pub rows : List String → List ℕ
 unfolding ascii
 rows [] = []
 rows (s ∷ l) = ascii s ++ (LF ∷ rows l)
+
+-- Bytes with no LF among them.
+abbrev pub Plain : List ℕ → Type 0
+Plain [] = Unit {0}
+Plain (x ∷ l) = (x ≡ LF → ⊥) × Plain l
+
+-- A text of one line: LF stands behind it and nowhere else.
+pub record OneLine (text : List ℕ) : Type 0 where
+  pub front : List ℕ
+  pub is : text ≡ front ++ (LF ∷ [])
+  pub plain : Plain front

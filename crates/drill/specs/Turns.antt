@@ -85,3 +85,13 @@ unfoldable pub passed : Node → List Read → Step
 unfolding turned
 passed n [] = goesOn n []
 passed n (w ∷ l) = turned (suc (length l)) (passed n l .node) w
+
+-- The lines of those steps, and the reads in the order in which they were made, before others.
+unfoldable pub linesOf : Node → List Read → List ℕ
+unfolding passed
+linesOf n [] = []
+linesOf n (w ∷ l) = linesOf n l ++ passed n (w ∷ l) .line
+
+unfoldable pub inOrder : List Read → List Read → List Read
+inOrder [] m = m
+inOrder (w ∷ l) m = inOrder l (w ∷ m)
