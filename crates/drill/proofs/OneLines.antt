@@ -1,9 +1,8 @@
 -- Every step gives no byte or one line, with LF behind it and nowhere else. Assumes nothing.
 use Prim.Native.Nat.{ℕ, zero, suc, _+_, _/_, _%_}
-use mathlib.Core.Path.{_≡_, refl, sym, subst}
+use mathlib.Core.Path.{refl, sym}
 use mathlib.Core.Bool.{Bool, true, false, cond, not, _&&_}
 use mathlib.Core.List.{List, [], _∷_, _++_, map, append-assoc}
-use mathlib.Core.Logic.{⊎-elim}
 use native.Mathlib.Omega.{arith}
 use lib.ListN.{length}
 use lib.Dec.{eqb}
@@ -11,14 +10,13 @@ use Rattle.wire.specs.Fields.{addressAt, oddFirst}
 use Rattle.wire.specs.Head.{kindOf, bodyOf}
 use Rattle.controller.specs.State.{State}
 use Rattle.controller.specs.declared.node.Node.{Node}
-use Rattle.controller.specs.declared.node.Started.{Started}
 use Rattle.controller.specs.declared.record.Answer.{Answer}
 use Rattle.controller.specs.Node.{stateOf, answerOf, westRequest, eastRequest, steered}
 use Rattle.controller.specs.Record.{outcome}
 use Rattle.ways.specs.Choice.{number}
 use Rattle.drill.specs.Text.{LF, space, digit, ascii, digitsOf, decimal, line, Plain, OneLine}
 use Rattle.drill.specs.Lines.{recordLine, refusedLine, wayLine, questionLine, settingsLine}
-use Rattle.drill.specs.Turns.{Read, nothing, cut, whole, Step, stepped, turned, begunWith, begun}
+use Rattle.drill.specs.Turns.{Step, stepped}
 
 plain-append : (a b : List ℕ) → Plain a → Plain b → Plain (a ++ b)
 plain-append [] b p q = q
