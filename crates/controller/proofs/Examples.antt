@@ -1,4 +1,4 @@
--- The worked drill of 01, from its settings record, by computation: its eight lines, and the reports that it writes; and that room is tested before all else. Assumes nothing.
+-- The worked drill of 01, from its settings record, by computation: the reports that it writes; and that room is tested before all else. Assumes nothing.
 use Prim.Native.Nat.{ℕ}
 use mathlib.Core.Path.{_≡_, refl}
 use mathlib.Core.List.{[], _∷_}
@@ -11,24 +11,11 @@ use Rattle.settings.specs.Reading.{fieldsOf, fullIn, settingsIn}
 use Rattle.stations.specs.Table.{blank, tableOf}
 use Rattle.controller.specs.Reading.{Refused, reading}
 use Rattle.controller.specs.Node.{startedWith}
-use Rattle.controller.specs.Drill.{lines, reports, settingsRecord, records}
+use Rattle.controller.specs.Drill.{reports, settingsRecord, records}
 
 pub drill-starts : startedWith settingsRecord .result ≡ 0
 unfolding startedWith settingsIn headOf broken fullIn fieldsOf inRange addressAt
 drill-starts = refl
-
-pub drill-lines : lines (startedWith settingsRecord .node) records
-    ≡ (0 ∷ 4 ∷ 0 ∷ 1 ∷ 0 ∷ 1 ∷ [])
-    ∷ (0 ∷ 0 ∷ 0 ∷ 2 ∷ 0 ∷ 1 ∷ [])
-    ∷ (0 ∷ 0 ∷ 0 ∷ 2 ∷ 1 ∷ 0 ∷ [])
-    ∷ (0 ∷ 0 ∷ 0 ∷ 2 ∷ 1 ∷ 0 ∷ [])
-    ∷ (22 ∷ 0 ∷ 0 ∷ 2 ∷ 1 ∷ 0 ∷ [])
-    ∷ (0 ∷ 2 ∷ 0 ∷ 3 ∷ 1 ∷ 1 ∷ [])
-    ∷ (0 ∷ 3 ∷ 0 ∷ 4 ∷ 1 ∷ 1 ∷ [])
-    ∷ (0 ∷ 3 ∷ 0 ∷ 4 ∷ 1 ∷ 0 ∷ [])
-    ∷ []
-unfolding lines startedWith settingsIn headOf broken fullIn fieldsOf inRange addressAt tableOf ticksOf blank reportBytes
-drill-lines = refl
 
 pub drill-reports : reports (startedWith settingsRecord .node) records
     ≡ (5 ∷ 0 ∷ 16 ∷ 0 ∷ 1 ∷ 4 ∷ 0 ∷ []) ∷ (5 ∷ 0 ∷ 16 ∷ 0 ∷ 2 ∷ 0 ∷ 0 ∷ []) ∷ [] ∷ [] ∷ [] ∷ (5 ∷ 0 ∷ 16 ∷ 0 ∷ 3 ∷ 2 ∷ 0 ∷ [])

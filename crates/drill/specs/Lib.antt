@@ -3,3 +3,4 @@ pub mod Lines
 pub mod Turns
 pub mod Input
 pub mod Promise
+pub mod Examples
