@@ -3,12 +3,13 @@ use Prim.Native.Nat.{ℕ, zero, suc}
 use mathlib.Core.Path.{_≡_, refl, sym, _∙_, ap}
 use mathlib.Core.Bool.{Bool, true, false, cond, _||_}
 use mathlib.Core.List.{List, [], _∷_}
-use mathlib.Core.Option.{Option, none, some, Option·some-ne-none}
+use mathlib.Core.Option.{Option, none, some}
 use lib.ListN.{length}
 use lib.Dec.{eqb, ltb}
 use borrow.Author.Tests.{eq-eqb, eqb-true}
 use Rattle.blocks.specs.declared.attributes.Attributes.{Attributes}
 use Rattle.blocks.specs.Attributes.{absent}
+use Rattle.stations.proofs.Inserting.{unknown-absent}
 use Rattle.stations.specs.declared.station.Station.{Station}
 use Rattle.stations.specs.declared.station.Report.{Report}
 use Rattle.stations.specs.Station.{hop, older, withHop, withAttributes, again, told, newcomer}
@@ -151,16 +152,6 @@ unfolding dressed
 twice-dressed f g [] = refl
 twice-dressed f g (s ∷ l) = ap (λ (m : List Station). dress f s ∷ m) (twice-dressed f g l)
 
--- A station whose sequence is not known is not there.
-pub absent-of : (a : ℕ) (l : List Station) → sequenceOf a l ≡ none → present a l ≡ false
-unfolding sequenceOf present
-absent-of a [] h = refl
-absent-of a (s ∷ l) h = go (eqb (s .address) a) h (absent-of a l)
-  where
-    go : (b : Bool) → cond b (some (s .sequence)) (sequenceOf a l) ≡ none → (sequenceOf a l ≡ none → present a l ≡ false) → b || present a l ≡ false
-    go true h k = absurd (Option·some-ne-none (s .sequence) h)
-    go false h k = k h
-
 abbrev pub dressedPlaced : (ℕ → Attributes) → Placed → Placed
 dressedPlaced f d = record { result = d .result; stations = dressed f (d .stations) }
 
@@ -202,7 +193,7 @@ module _ (f : ℕ → Attributes) (p : Report) where
   pub placed-dressed : (l : List Station) → (present (p .address) l ≡ false → f (p .address) ≡ absent)
       → placed p (dressed f l) ≡ dressedPlaced f (placed p l)
   unfolding placed
-  placed-dressed l new = rw (sequence-dressed f (p .address) l) (go (sequenceOf (p .address) l) (λ h. new (absent-of (p .address) l h)))
+  placed-dressed l new = rw (sequence-dressed f (p .address) l) (go (sequenceOf (p .address) l) (λ h. new (unknown-absent (p .address) l h)))
     where
       go : (o : Option ℕ) → (o ≡ none → f (p .address) ≡ absent) → placedBy o p (dressed f l) ≡ dressedPlaced f (placedBy o p l)
       go none h = new-dressed (h refl) l

@@ -12,7 +12,7 @@ use Rattle.spans.specs.Codes.{none}
 use Rattle.spans.specs.Records.{linked, ticked, alive, asked}
 use Rattle.spans.specs.Requests.{automatic}
 use Rattle.spans.proofs.Beneath.{waited-asked, linked-asked}
-use Rattle.stations.proofs.Lists.{neither}
+use Rattle.wire.proofs.Truths.{neither}
 use Rattle.controller.specs.declared.reading.Reading.{Reading}
 use Rattle.controller.specs.declared.reading.Reading.the-variants.{Refused, Tick, Link, Keepalive, Operator, Heard, Block}
 use Rattle.controller.specs.Reading.{blockOf}

@@ -13,7 +13,7 @@ use Rattle.spans.specs.Records.{linked, alive, asked}
 use Rattle.spans.specs.Requests.{automatic, waited, request}
 use Rattle.spans.specs.HoldOff.{HeldOff, LinkAlone, LinkDecides}
 use Rattle.spans.proofs.HoldOff.{held-linked, held-ticked, held-alive, held-asked, held-marked, held-waited, still-held, held-over, idle-while-held, sf-when-over, sd-when-over}
-use Rattle.stations.proofs.Lists.{neither}
+use Rattle.wire.proofs.Truths.{neither}
 use Rattle.controller.specs.declared.reading.Reading.{Reading}
 use Rattle.controller.specs.declared.reading.Reading.the-variants.{Refused, Tick, Link, Keepalive, Operator, Heard, Block}
 use Rattle.controller.specs.State.{Choice, Spans, State, spanOf}
