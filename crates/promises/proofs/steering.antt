@@ -1,5 +1,4 @@
 -- No way is answered over a span that either end last called failed. In the order of reading.
-pub mod Replies
 pub mod Saying
 pub mod Standing
 pub mod Steering

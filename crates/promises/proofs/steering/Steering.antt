@@ -12,7 +12,6 @@ use Rattle.stations.specs.Stations.{present}
 use Rattle.stations.specs.Table.{Each, Ascending}
 use Rattle.ways.specs.Walk.{Ends}
 use Rattle.ways.specs.declared.choice.Reply.{Reply}
-use Rattle.ways.specs.declared.choice.Reply.the-variants.{West, East}
 use Rattle.ways.specs.Choice.{number, hopOf}
 use Rattle.ways.specs.Usable.{Open}
 use Rattle.ways.proofs.Choosing.{west-usable, east-usable}
@@ -27,7 +26,6 @@ use Rattle.promises.specs.History.{Call, after, AllBytes, startOf, Made,
 use Rattle.promises.specs.Steering.{said, StandsAt, Clear}
 use Rattle.promises.proofs.demand2.AfterKept.{after-kept}
 use Rattle.promises.proofs.demand2.Coming.{ruled}
-use Rattle.promises.proofs.steering.Replies.{number-tells}
 use Rattle.promises.proofs.steering.Saying.{call-says}
 use Rattle.promises.proofs.steering.Standing.{open-clear, stands-once}
 
@@ -50,13 +48,13 @@ said-of-absent c (x ∷ h) a p = rw p refl
 west-open : (s : State) (a : ℕ) → number (steered s a) ≡ 0 → Open 0 (westRequest s) (s .stations) (hopOf 0 a (s .stations))
 unfolding steered
 west-open s a q =
-    let (x, p) = west-usable (westRequest s) (eastRequest s) (s .stations) a (number-tells (steered s a) West q) in
+    let (x, p) = west-usable (westRequest s) (eastRequest s) (s .stations) a q in
     way-open 0 (westRequest s) (s .stations) (hopOf 0 a (s .stations)) x p
 
 east-open : (s : State) (a : ℕ) → number (steered s a) ≡ 1 → Open 1 (eastRequest s) (s .stations) (hopOf 1 a (s .stations))
 unfolding steered
 east-open s a q =
-    let (x, p) = east-usable (westRequest s) (eastRequest s) (s .stations) a (number-tells (steered s a) East q) in
+    let (x, p) = east-usable (westRequest s) (eastRequest s) (s .stations) a q in
     way-open 1 (eastRequest s) (s .stations) (hopOf 1 a (s .stations)) x p
 
 -- 0, or 1, is answered: the station has a hop there.

@@ -3,9 +3,7 @@ use Prim.Native.Nat.{ℕ}
 use mathlib.Core.Path.{_≡_, refl, sym, _∙_, ap}
 use mathlib.Core.Bool.{cond}
 use lib.Dec.{eqb}
-use Rattle.ways.specs.declared.choice.Reply.{Reply}
-use Rattle.ways.specs.declared.choice.Reply.the-variants.{West, East, NoWay, Unknown}
-use Rattle.ways.specs.Choice.{number}
+use Rattle.ways.specs.Choice.{Reply, West, East, NoWay, Unknown, number}
 
 abbrev replyOf : ℕ → Reply
 replyOf n = cond (eqb n 0) West (cond (eqb n 1) East (cond (eqb n 2) NoWay Unknown))
