@@ -106,9 +106,12 @@ unfolding reading
 unasked own n [] = []
 unasked own n (c ∷ h) = cond (isOperator n (readAs own c)) (unasked own n h) (c ∷ unasked own n h)
 
--- The span n after a history.
+-- The span n after a history; of a node, after the calls that were made of it.
 abbrev pub spanAfter : ℕ → State → List Call → Span
 spanAfter n s h = spanOf n (after s h .spans)
+
+abbrev pub spanSeen : ℕ → Started → List Made → Span
+spanSeen n st h = spanOf n (seen st h .spans)
 
 -- The span request and the automatic request of span n.
 abbrev pub requestOn : ℕ → State → ℕ

@@ -72,41 +72,47 @@ module _ (s : State) (n : ℕ) (side : n ≤ 1) where
     held-off other worse = goes-on (spanAfter n s g .force) x (c ∷ g) (starts g c x is other worse)
 
     -- "with a setting of 0 it comes into force at once".
-    pub at-once : (ticksIn s) .holdoff ≡ 0 → (x ≡ spanAfter n s g .stored → ⊥) → spanAfter n s g .force < x → spanAfter n s (c ∷ g) .force ≡ x
+    pub at-once : ticksIn s .holdoff ≡ 0 → (x ≡ spanAfter n s g .stored → ⊥) → spanAfter n s g .force < x → spanAfter n s (c ∷ g) .force ≡ x
     at-once zero other worse = held-over (ticksIn s) (spanAfter n s (c ∷ g)) (starts g c x is other worse) (omega arith)
 
     -- A link that was good: degraded, or failed.
-    module _ (stored : spanAfter n s g .stored ≡ good) (force : spanAfter n s g .force ≡ good) (worse : good < x) (h : List Call) (u : linkTaken (ownIn s) n h ≡ false) where
+    module _ (stored : spanAfter n s g .stored ≡ good) (force : spanAfter n s g .force ≡ good) (worse : good < x) (h : List Call)
+        (u : linkTaken (ownIn s) n h ≡ false) where
       from-good : HeldOff (ticksIn s) good x (ticksTaken (ownIn s) h) (spanAfter n s (h ++ (c ∷ g)))
       from-good =
           subst (λ (f : ℕ). HeldOff (ticksIn s) f x (ticksTaken (ownIn s) h) (spanAfter n s (h ++ (c ∷ g)))) force
           (held-off (λ e. omega arith) (omega arith) h u)
 
       -- the settings stay, so that requests may be asked with those of s
-      with-ticks : (P : ℕ → Type 0) (ask : Ticks → Span → ℕ) → P (ask (ticksIn s) (spanOf n ((after s (h ++ (c ∷ g))) .spans))) → P (ask ((after s (h ++ (c ∷ g))) .choice .ticks) (spanOf n ((after s (h ++ (c ∷ g))) .spans)))
-      with-ticks P ask p = subst (λ (k : Choice). P (ask (k .ticks) (spanOf n ((after s (h ++ (c ∷ g))) .spans)))) (sym (choice-after s (h ++ (c ∷ g)))) p
+      with-ticks : (P : ℕ → Type 0) (ask : Ticks → Span → ℕ) → P (ask (ticksIn s) (spanAfter n s (h ++ (c ∷ g))))
+          → P (ask (ticksIn (after s (h ++ (c ∷ g)))) (spanAfter n s (h ++ (c ∷ g))))
+      with-ticks P ask p = subst (λ (k : Choice). P (ask (k .ticks) (spanAfter n s (h ++ (c ∷ g))))) (sym (choice-after s (h ++ (c ∷ g)))) p
 
-      pub good-while-held : ticksTaken (ownIn s) h < (ticksIn s) .holdoff → spanOf n ((after s (h ++ (c ∷ g))) .spans) .force ≡ good
-      good-while-held = still-held (ticksIn s) (spanOf n ((after s (h ++ (c ∷ g))) .spans)) from-good
+      pub good-while-held : ticksTaken (ownIn s) h < ticksIn s .holdoff → spanAfter n s (h ++ (c ∷ g)) .force ≡ good
+      good-while-held = still-held (ticksIn s) (spanAfter n s (h ++ (c ∷ g))) from-good
 
-      pub worse-when-over : (ticksIn s) .holdoff ≤ ticksTaken (ownIn s) h → spanOf n ((after s (h ++ (c ∷ g))) .spans) .force ≡ x
-      worse-when-over = held-over (ticksIn s) (spanOf n ((after s (h ++ (c ∷ g))) .spans)) from-good
+      pub worse-when-over : ticksIn s .holdoff ≤ ticksTaken (ownIn s) h → spanAfter n s (h ++ (c ∷ g)) .force ≡ x
+      worse-when-over = held-over (ticksIn s) (spanAfter n s (h ++ (c ∷ g))) from-good
 
-      -- P6's (ownIn s) words: "IDLE after 29 ticks" ..
-      pub idle-meanwhile : ticksTaken (ownIn s) h < (ticksIn s) .holdoff → LinkDecides (ticksIn s) (spanOf n ((after s (h ++ (c ∷ g))) .spans)) → requestOn n (after s (h ++ (c ∷ g))) ≡ IDLE
-      idle-meanwhile more d = with-ticks (λ (q : ℕ). q ≡ IDLE) request (idle-while-held (ticksIn s) (spanOf n ((after s (h ++ (c ∷ g))) .spans)) from-good more d)
+      -- P6's own words: "IDLE after 29 ticks" ..
+      pub idle-meanwhile : ticksTaken (ownIn s) h < ticksIn s .holdoff → LinkDecides (ticksIn s) (spanAfter n s (h ++ (c ∷ g)))
+          → requestOn n (after s (h ++ (c ∷ g))) ≡ IDLE
+      idle-meanwhile more d =
+          with-ticks (λ (q : ℕ). q ≡ IDLE) request (idle-while-held (ticksIn s) (spanAfter n s (h ++ (c ∷ g))) from-good more d)
 
       -- .. "SF after 30": the automatic request, and the span request unless the operator's is above it.
-      pub failed-then : x ≡ failed → (ticksIn s) .holdoff ≤ ticksTaken (ownIn s) h
-          → (automaticOn n (after s (h ++ (c ∷ g))) ≡ SF) × (requestOn n (after s (h ++ (c ∷ g))) ≡ higher (spanOf n ((after s (h ++ (c ∷ g))) .spans) .operator) SF)
+      pub failed-then : x ≡ failed → ticksIn s .holdoff ≤ ticksTaken (ownIn s) h
+          → (automaticOn n (after s (h ++ (c ∷ g))) ≡ SF)
+          × (requestOn n (after s (h ++ (c ∷ g))) ≡ higher (spanAfter n s (h ++ (c ∷ g)) .operator) SF)
       failed-then is over =
-          let held : HeldOff (ticksIn s) good failed (ticksTaken (ownIn s) h) (spanOf n ((after s (h ++ (c ∷ g))) .spans)) = rw (← is) from-good in
-          let (sf, top) = sf-when-over (ticksIn s) (spanOf n ((after s (h ++ (c ∷ g))) .spans)) held over in (
+          let held : HeldOff (ticksIn s) good failed (ticksTaken (ownIn s) h) (spanAfter n s (h ++ (c ∷ g))) = rw (← is) from-good in
+          let (sf, top) = sf-when-over (ticksIn s) (spanAfter n s (h ++ (c ∷ g))) held over in (
             with-ticks (λ (q : ℕ). q ≡ SF) automatic sf,
-            with-ticks (λ (q : ℕ). q ≡ higher (spanOf n ((after s (h ++ (c ∷ g))) .spans) .operator) SF) request top,
+            with-ticks (λ (q : ℕ). q ≡ higher (spanAfter n s (h ++ (c ∷ g)) .operator) SF) request top,
           )
 
-      pub degraded-then : x ≡ degraded → (ticksIn s) .holdoff ≤ ticksTaken (ownIn s) h → LinkAlone (ticksIn s) (spanOf n ((after s (h ++ (c ∷ g))) .spans)) → automaticOn n (after s (h ++ (c ∷ g))) ≡ SD
+      pub degraded-then : x ≡ degraded → ticksIn s .holdoff ≤ ticksTaken (ownIn s) h → LinkAlone (ticksIn s) (spanAfter n s (h ++ (c ∷ g)))
+          → automaticOn n (after s (h ++ (c ∷ g))) ≡ SD
       degraded-then is over a =
-          let held : HeldOff (ticksIn s) good degraded (ticksTaken (ownIn s) h) (spanOf n ((after s (h ++ (c ∷ g))) .spans)) = rw (← is) from-good in
-          with-ticks (λ (q : ℕ). q ≡ SD) automatic (sd-when-over (ticksIn s) (spanOf n ((after s (h ++ (c ∷ g))) .spans)) held over a)
+          let held : HeldOff (ticksIn s) good degraded (ticksTaken (ownIn s) h) (spanAfter n s (h ++ (c ∷ g))) = rw (← is) from-good in
+          with-ticks (λ (q : ℕ). q ≡ SD) automatic (sd-when-over (ticksIn s) (spanAfter n s (h ++ (c ∷ g))) held over a)

@@ -100,7 +100,7 @@ aged-is-sf t u high = rw (le-leb (t .keepalive) (u .age) high) (go (eqb (u .forc
 
 -- s is any state, g the calls before which a ticks had passed since a keepalive, h the calls after.
 module _ (s : State) (n : ℕ) (side : n ≤ 1) (g : List Call) (a : ℕ) (first : spanAfter n s g .age ≡ upTo (s .choice .ticks .keepalive) a) where
-  pub age-counts : (h : List Call) → spanAfter n s (h ++ g) .age ≡ upTo ((ticksIn s) .keepalive) (ticksQuiet (ownIn s) n a h)
+  pub age-counts : (h : List Call) → spanAfter n s (h ++ g) .age ≡ upTo (ticksIn s .keepalive) (ticksQuiet (ownIn s) n a h)
   unfolding ticksQuiet
   age-counts [] = first
   age-counts (c ∷ h) =
@@ -110,14 +110,14 @@ module _ (s : State) (n : ℕ) (side : n ≤ 1) (g : List Call) (a : ℕ) (first
       ∙ acted-age n side (ticksIn s) y (ticksQuiet (ownIn s) n a h) (age-counts h) (readAs (ownIn s) c) (sided (ownIn s) (c .bytes) (c .room))
 
   -- Keepalives coming: fewer ticks since the latest than the setting ..
-  pub keepalives-coming : (h : List Call) → ticksQuiet (ownIn s) n a h < (ticksIn s) .keepalive → spanAfter n s (h ++ g) .age < (ticksIn s) .keepalive
+  pub keepalives-coming : (h : List Call) → ticksQuiet (ownIn s) n a h < ticksIn s .keepalive → spanAfter n s (h ++ g) .age < ticksIn s .keepalive
   keepalives-coming h low =
-      let is : spanAfter n s (h ++ g) .age ≡ ticksQuiet (ownIn s) n a h = age-counts h ∙ rw (lt-ltb (ticksQuiet (ownIn s) n a h) ((ticksIn s) .keepalive) low) refl in
+      let is : spanAfter n s (h ++ g) .age ≡ ticksQuiet (ownIn s) n a h = age-counts h ∙ rw (lt-ltb (ticksQuiet (ownIn s) n a h) (ticksIn s .keepalive) low) refl in
       omega arith
 
   -- .. and else SF.
-  pub silence-is-sf : (h : List Call) → (ticksIn s) .keepalive ≤ ticksQuiet (ownIn s) n a h → automaticOn n (after s (h ++ g)) ≡ SF
+  pub silence-is-sf : (h : List Call) → ticksIn s .keepalive ≤ ticksQuiet (ownIn s) n a h → automaticOn n (after s (h ++ g)) ≡ SF
   silence-is-sf h high =
-      let is : spanAfter n s (h ++ g) .age ≡ (ticksIn s) .keepalive = age-counts h ∙ rw (le-ltb (ticksQuiet (ownIn s) n a h) ((ticksIn s) .keepalive) high) refl in
+      let is : spanAfter n s (h ++ g) .age ≡ ticksIn s .keepalive = age-counts h ∙ rw (le-ltb (ticksQuiet (ownIn s) n a h) (ticksIn s .keepalive) high) refl in
       ap (λ (k : Choice). automatic (k .ticks) (spanAfter n s (h ++ g))) (choice-after s (h ++ g))
       ∙ aged-is-sf (ticksIn s) (spanAfter n s (h ++ g)) (omega arith)

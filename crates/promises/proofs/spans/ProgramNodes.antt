@@ -18,7 +18,8 @@ use Rattle.controller.specs.Node.{choiceOf, stateOf}
 use Rattle.controller.specs.Kept.{StateKept}
 use Rattle.controller.specs.Promise.{Begun}
 use Rattle.promises.specs.History.{Call, after, Always, startOf, Made, callOf, callsOf, Met}
-use Rattle.promises.specs.Spans.{readAs, ticksTaken, linkTaken, operatorTaken, unasked, spanAfter, requestOn, automaticOn, Unrequested, UnrequestedOn, Swept, SameBeneath, ownFrom, ticksFrom, seen}
+use Rattle.promises.specs.Spans.{ownFrom, ticksFrom, seen, readAs, ticksTaken, linkTaken, operatorTaken, unasked, spanAfter, spanSeen}
+use Rattle.promises.specs.Spans.{requestOn, automaticOn, Unrequested, UnrequestedOn, Swept, SameBeneath}
 use Rattle.promises.proofs.demand2.Coming.{state-after, ruled}
 use Rattle.promises.proofs.spans.HoldOff.{held-off, idle-meanwhile, failed-then}
 use Rattle.promises.proofs.spans.Purging.{started-swept}
@@ -61,12 +62,12 @@ module _ (b : List ℕ) (st : Started) (begun : Begun b st) where
     unfolding Met
     before = state-after b st begun g (met-before st h (m ∷ g) met .1)
 
-    later : (seen st (h ++ (m ∷ g))) ≡ after (startOf b) (callsOf h ++ (callOf m ∷ callsOf g))
+    later : seen st (h ++ (m ∷ g)) ≡ after (startOf b) (callsOf h ++ (callOf m ∷ callsOf g))
     unfolding callsOf
     later = seen-is h (m ∷ g) met
 
-    pub node-held-off : (x ≡ spanOf n (seen st g .spans) .stored → ⊥) → spanOf n (seen st g .spans) .force < x
-        → HeldOff (ticksFrom b) (spanOf n (seen st g .spans) .force) x (ticksTaken (ownFrom b) (callsOf h)) (spanOf n ((seen st (h ++ (m ∷ g))) .spans))
+    pub node-held-off : (x ≡ spanSeen n st g .stored → ⊥) → spanSeen n st g .force < x
+        → HeldOff (ticksFrom b) (spanSeen n st g .force) x (ticksTaken (ownFrom b) (callsOf h)) (spanSeen n st (h ++ (m ∷ g)))
     unfolding startOf started
     node-held-off =
         of-both
@@ -75,11 +76,12 @@ module _ (b : List ℕ) (st : Started) (begun : Begun b st) where
         before later (λ other worse. held-off (startOf b) n side (callsOf g) (callOf m) x is other worse (callsOf h) u)
 
     -- From a good link.
-    module _ (stored : spanOf n (seen st g .spans) .stored ≡ good) (force : spanOf n (seen st g .spans) .force ≡ good) where
-      link : (part : Span → ℕ) → part (spanOf n (seen st g .spans)) ≡ good → part (spanOf n (after (startOf b) (callsOf g) .spans)) ≡ good
+    module _ (stored : spanSeen n st g .stored ≡ good) (force : spanSeen n st g .force ≡ good) where
+      link : (part : Span → ℕ) → part (spanSeen n st g) ≡ good → part (spanOf n (after (startOf b) (callsOf g) .spans)) ≡ good
       link part e = ap (λ (z : State). part (spanOf n (z .spans))) (sym before) ∙ e
 
-      pub node-idle-meanwhile : good < x → ticksTaken (ownFrom b) (callsOf h) < (ticksFrom b) .holdoff → LinkDecides (ticksFrom b) (spanOf n ((seen st (h ++ (m ∷ g))) .spans)) → requestOn n (seen st (h ++ (m ∷ g))) ≡ IDLE
+      pub node-idle-meanwhile : good < x → ticksTaken (ownFrom b) (callsOf h) < ticksFrom b .holdoff → LinkDecides (ticksFrom b) (spanSeen n st (h ++ (m ∷ g)))
+          → requestOn n (seen st (h ++ (m ∷ g))) ≡ IDLE
       unfolding startOf started
       node-idle-meanwhile worse more =
           subst (λ (z : State). LinkDecides (ticksFrom b) (spanOf n (z .spans)) → requestOn n z ≡ IDLE) (sym later)
@@ -87,16 +89,19 @@ module _ (b : List ℕ) (st : Started) (begun : Begun b st) where
           (callsOf h) u more)
 
       -- SF, unless the operator asks for FS.
-      pub node-failed-then : x ≡ failed → (ticksFrom b) .holdoff ≤ ticksTaken (ownFrom b) (callsOf h)
-          → (automaticOn n (seen st (h ++ (m ∷ g))) ≡ SF) × ((spanOf n ((seen st (h ++ (m ∷ g))) .spans) .operator ≡ FS → ⊥) → requestOn n (seen st (h ++ (m ∷ g))) ≡ SF)
+      pub node-failed-then : x ≡ failed → ticksFrom b .holdoff ≤ ticksTaken (ownFrom b) (callsOf h)
+          → (automaticOn n (seen st (h ++ (m ∷ g))) ≡ SF)
+          × ((spanSeen n st (h ++ (m ∷ g)) .operator ≡ FS → ⊥) → requestOn n (seen st (h ++ (m ∷ g))) ≡ SF)
       unfolding startOf started
       node-failed-then bad over =
-          let both : (automaticOn n (seen st (h ++ (m ∷ g))) ≡ SF) × (requestOn n (seen st (h ++ (m ∷ g))) ≡ higher (spanOf n ((seen st (h ++ (m ∷ g))) .spans) .operator) SF) =
+          let both : (automaticOn n (seen st (h ++ (m ∷ g))) ≡ SF)
+          × (requestOn n (seen st (h ++ (m ∷ g))) ≡ higher (spanSeen n st (h ++ (m ∷ g)) .operator) SF) =
           subst (λ (z : State). (automaticOn n z ≡ SF) × (requestOn n z ≡ higher (spanOf n (z .spans) .operator) SF)) (sym later)
           (failed-then (startOf b) n side (callsOf g) (callOf m) x is (link (λ (z : Span). z .stored) stored) (link (λ (z : Span). z .force) force) (omega arith)
           (callsOf h) u bad over) in
-          let kept : SpanFair ((seen st (h ++ (m ∷ g))) .choice .ticks) (spanOf n ((seen st (h ++ (m ∷ g))) .spans)) = span-fair n (seen st (h ++ (m ∷ g))) (ruled b st begun (h ++ (m ∷ g)) met .kept .state) in
-          (both .0, λ free. both .1 ∙ below-sf (spanOf n ((seen st (h ++ (m ∷ g))) .spans) .operator) (kept .operator) free)
+          let kept : SpanFair (seen st (h ++ (m ∷ g)) .choice .ticks) (spanSeen n st (h ++ (m ∷ g))) =
+          span-fair n (seen st (h ++ (m ∷ g))) (ruled b st begun (h ++ (m ∷ g)) met .kept .state) in
+          (both .0, λ free. both .1 ∙ below-sf (spanSeen n st (h ++ (m ∷ g)) .operator) (kept .operator) free)
 
   -- Beneath an operator request: two nodes of one start, whose calls k and l differ in operator records of span n alone.
   tidy : Swept (startOf b)
@@ -129,7 +134,7 @@ module _ (b : List ℕ) (st : Started) (begun : Begun b st) where
   always n g (m ∷ h) met k = (unrequested n g (m ∷ h) met (k .0), always n g h (met .1) (k .1))
 
   pub node-wtr-runs-on : (n : ℕ) (g h : List Made) → Met st (h ++ g) → Always (λ (k : List Made). automaticOn n (seen st (k ++ g)) ≡ none) h
-      → spanOf n (seen st (h ++ g) .spans) .wtr ≡ spanOf n (seen st g .spans) .wtr - ticksTaken (ownFrom b) (callsOf h)
+      → spanSeen n st (h ++ g) .wtr ≡ spanSeen n st g .wtr - ticksTaken (ownFrom b) (callsOf h)
   unfolding startOf started
   node-wtr-runs-on n g h met k =
       of-both (λ (y z : State). spanOf n (y .spans) .wtr ≡ spanOf n (z .spans) .wtr - ticksTaken (ownFrom b) (callsOf h)) (seen-is h g met)
