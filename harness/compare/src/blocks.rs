@@ -1,9 +1,8 @@
 //! Attribute blocks, good and damaged in every way that the rules name.
 
-use crate::chance::Chance;
+use text::records::LONGEST_BLOCK;
 
-/// The longest block a record can carry.
-const LONGEST_BLOCK: usize = 1_024;
+use crate::chance::Chance;
 
 /// Types no level knows, those beside the known ones, and known ones with a high bit added.
 const UNKNOWN: [u16; 14] = [0, 0, 3, 4, 5, 128, 129, 256, 257, 258, 512, 513, 514, 1_023];

@@ -10,12 +10,14 @@ use std::time::{Duration, Instant};
 
 use model::drill::say;
 use model::faults::RIGHT;
+use text::accepting::accept;
+use text::program::{cannot, fresh_directory, Desk, Program, Room, TIME_LIMIT};
+use text::reading::Text;
+use text::writing;
 
 use crate::difference::Difference;
 use crate::drills::Drill;
 use crate::options::Options;
-use crate::program::{cannot, fresh_directory, Desk, Program, Room};
-use crate::records::hex;
 use crate::shorten::shorten;
 use crate::tally::Tally;
 use crate::voice::{tell, warn};
@@ -53,7 +55,7 @@ impl Queue {
 /// Runs the contest; true if all agreed.
 pub fn contest(options: &Options) -> Result<bool, String> {
     let program = Program::find(options.drill.as_deref())?;
-    let room = Room::new()?;
+    let room = Room::new("compare")?;
     let desk = room.desk(0)?;
     worked::probe(&program, &desk)?;
     let started = Instant::now();
@@ -126,7 +128,7 @@ fn one_drill(
 ) -> Result<Result<Tally, Difference>, String> {
     let bytes = drill.bytes();
     let model = say::<RIGHT>(&bytes);
-    let mut said = program.say(&bytes, desk)?;
+    let mut said = program.say(&bytes, desk, Some(TIME_LIMIT))?;
     if let Some(ended) = said.ended {
         // A program that ends badly differs, even if it said all lines before.
         said.lines.extend(format!("({ended})").bytes());
@@ -197,7 +199,8 @@ fn show(
         last = first.clone();
         drill.clone()
     });
-    let file = keep(options, seed, &short)?;
+    let text = text_of(&short);
+    let file = keep(options, seed, &text)?;
     tell(format!(
         "shortened from {} to {} records, differs in line {}",
         drill.records.len(),
@@ -205,14 +208,27 @@ fn show(
         last.line
     ));
     tell(last.shown());
-    tell(format!("written to {}", file.display()));
-    for record in std::iter::once(&short.settings).chain(&short.records) {
-        tell(format!("  {}", hex(record)));
-    }
+    tell(format!(
+        "written to {}, with the model's lines",
+        file.display()
+    ));
+    tell(text.trim_end());
     Ok(())
 }
 
-fn keep(options: &Options, seed: u64, drill: &Drill) -> Result<PathBuf, String> {
+/// A drill as text, with the lines that the model says to it.
+fn text_of(drill: &Drill) -> String {
+    let bytes = drill.bytes();
+    let plain = writing::text(&bytes);
+    match Text::read(plain.as_bytes()) {
+        Ok(text) => accept(&text, &String::from_utf8_lossy(&say::<RIGHT>(&bytes))).source,
+        // A drill that no text can hold is too long to be read.
+        Err(_) => plain,
+    }
+}
+
+/// Writes the text of a seed's drill where it was asked for.
+fn keep(options: &Options, seed: u64, text: &str) -> Result<PathBuf, String> {
     let directory = match &options.keep {
         Some(directory) => {
             let path = Path::new(directory);
@@ -222,6 +238,6 @@ fn keep(options: &Options, seed: u64, drill: &Drill) -> Result<PathBuf, String> 
         None => fresh_directory("compare-kept")?,
     };
     let file = directory.join(format!("seed-{seed}.drill"));
-    fs::write(&file, drill.bytes()).map_err(|error| cannot("write", &file, &error))?;
+    fs::write(&file, text).map_err(|error| cannot("write", &file, &error))?;
     Ok(file)
 }

@@ -1,9 +1,10 @@
 //! The drill of a seed: settings, scenes on a ring, and one of several ends.
 
+use text::records::{self, Bytes, LONGEST};
+
 use crate::chance::Chance;
 use crate::maker::Maker;
 use crate::plan::{self, Plan};
-use crate::records::{self, Bytes, LONGEST};
 use crate::scenes;
 use crate::wild;
 

@@ -2,6 +2,7 @@
 //! It stops at the first line that differs and writes a shortened drill that still differs.
 //! `--self-test` shows that wrong models are found; `--help` lists the options.
 
+mod acceptance;
 mod blocks;
 mod chance;
 mod contest;
@@ -10,8 +11,6 @@ mod drills;
 mod maker;
 mod options;
 mod plan;
-mod program;
-mod records;
 mod ring;
 mod scenes;
 mod selftest;
@@ -22,12 +21,11 @@ mod wild;
 mod worked;
 
 use std::env;
-use std::fs;
 use std::io::{self, Write};
-use std::path::Path;
 use std::process::ExitCode;
 
 use model::faults::Fault;
+use text::source::Source;
 
 use crate::drills::Drill;
 use crate::options::{Options, Task, USAGE};
@@ -62,7 +60,8 @@ fn perform(options: &Options) -> Result<bool, String> {
     match &options.task {
         Task::Compare => contest::contest(options),
         Task::SelfTest => Ok(selftest::self_test(options)),
-        Task::As(fault, file) => speak_as(fault, Path::new(file)),
+        Task::As(fault, file) => speak_as(fault, file),
+        Task::Accept(files) => acceptance::accept_all(files),
         Task::Make(seed) => write_out(&Drill::of(*seed).bytes()),
         Task::Help => {
             tell(USAGE);
@@ -72,10 +71,9 @@ fn perform(options: &Options) -> Result<bool, String> {
 }
 
 /// Says what a model says to a drill in a file.
-fn speak_as(name: &str, file: &Path) -> Result<bool, String> {
+fn speak_as(name: &str, file: &str) -> Result<bool, String> {
     let fault = Fault::named(name).ok_or(format!("no fault is called '{name}'"))?;
-    let drill = fs::read(file).map_err(|error| program::cannot("read", file, &error))?;
-    write_out(&fault.drill()(&drill))
+    write_out(&fault.drill()(&Source::read(file)?.bytes()))
 }
 
 fn write_out(bytes: &[u8]) -> Result<bool, String> {

@@ -1,9 +1,10 @@
 //! The maker of a drill: it plays on a ring and writes down each record that it gives.
 //! It follows the keepalives so that a span goes down when a scene wants it, not by chance.
 
+use text::records::{self, Bytes, Report};
+
 use crate::chance::Chance;
 use crate::plan::Plan;
-use crate::records::{self, Bytes, Report};
 use crate::ring::Ring;
 
 /// No span, or every span, hears keepalives.
@@ -26,7 +27,7 @@ pub struct Maker {
 impl Maker {
     /// A drill on a ring of this many stations beside the own one.
     pub fn new(mut chance: Chance, plan: Plan, stations: usize) -> Maker {
-        let ring = Ring::new(&mut chance, plan.own, stations);
+        let ring = Ring::new(&mut chance, plan.settings.address, stations);
         Maker {
             chance,
             plan,
@@ -55,7 +56,7 @@ impl Maker {
     pub fn ticks(&mut self, count: usize, deaf: [bool; 2]) {
         for _ in 0..count {
             for (span, deaf) in deaf.into_iter().enumerate() {
-                let late = self.silent[span] + 1 >= u32::from(self.plan.keepalive);
+                let late = self.silent[span] + 1 >= u32::from(self.plan.settings.keepalive);
                 if late && !deaf {
                     self.give(records::keepalive(span as u8));
                 }

@@ -16,6 +16,7 @@ usage: compare [--from SEED] [--count N] [--seconds T] [--jobs J] [--drill CMD] 
        compare --self-test [--from SEED] [--count N]
        compare --make SEED
        compare --as FAULT FILE
+       compare --accept FILE..
   --from SEED    first seed (1)
   --count N      so many drills (2000, or no end with --seconds)
   --seconds T    new drills for so long
@@ -25,6 +26,7 @@ usage: compare [--from SEED] [--count N] [--seconds T] [--jobs J] [--drill CMD] 
   --self-test    every wrong model must be found within N drills (300)
   --make SEED    writes the drill of a seed to standard output
   --as FAULT     says what the model with this fault says to FILE; 'nothing' is the right model
+  --accept       writes the model's lines into texts; lines marked as worked out by hand stay, and are told
 exit status: 0 all agreed, 1 a line differs, 2 bad usage or a program that cannot be run";
 
 /// What to do.
@@ -38,6 +40,8 @@ pub enum Task {
     Make(u64),
     /// Be a model, maybe a wrong one: its short name, and the drill's file.
     As(String, String),
+    /// Write the model's lines into these texts.
+    Accept(Vec<String>),
     /// Say how to call the program.
     Help,
 }
@@ -97,6 +101,7 @@ impl Options {
             "--self-test" => self.task = Task::SelfTest,
             "--make" => self.task = Task::Make(number(name, &value()?)?),
             "--as" => self.task = Task::As(value()?, value()?),
+            "--accept" => self.task = Task::Accept(rest.by_ref().collect()),
             "--help" | "-h" => self.task = Task::Help,
             _ => return Err(format!("{name} is not an option")),
         }

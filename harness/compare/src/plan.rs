@@ -1,27 +1,14 @@
 //! The settings of a drill, and the settings records that a start refuses.
 
-use crate::chance::Chance;
-use crate::records::{record, wire, Bytes};
+use text::records::{self, record, Bytes, Settings};
 
-/// Settings as the settings record counts them.
+use crate::chance::Chance;
+
+/// Settings, and the kind of record that carries them.
 #[derive(Clone, Debug)]
 pub struct Plan {
-    /// Level, 1 or 2.
-    pub level: u8,
-    /// Own address.
-    pub own: u64,
-    /// WTR in seconds.
-    pub wtr: u16,
-    /// Hold-off in 10 ms steps.
-    pub hold_off: u8,
-    /// Keepalive in ms.
-    pub keepalive: u8,
-    /// Fast in ms.
-    pub fast: u8,
-    /// Slow in 50 ms steps.
-    pub slow: u8,
-    /// Forget in 100 ms steps.
-    pub forget: u16,
+    /// As the settings record counts them.
+    pub settings: Settings,
     /// Given as short settings, kind 33.
     pub short: bool,
 }
@@ -32,78 +19,27 @@ impl Plan {
         let own = own_address(chance);
         match chance.below(20) {
             0 => Plan::defaults(own),
-            1 | 2 => Plan::anywhere(chance, own),
-            3..=6 => Plan::waiting(chance, own),
-            7..=10 => Plan::holding(chance, own),
-            _ => Plan::brisk(chance, own),
+            1 | 2 => Plan::full(anywhere(chance, own)),
+            3..=6 => Plan::full(waiting(chance, own)),
+            7..=10 => Plan::full(holding(chance, own)),
+            _ => Plan::full(brisk(chance, own)),
         }
     }
 
     fn defaults(own: u64) -> Plan {
+        let address = own;
         Plan {
-            level: 2,
-            own,
-            wtr: 10,
-            hold_off: 0,
-            keepalive: 3,
-            fast: 10,
-            slow: 2,
-            forget: 10,
+            settings: Settings {
+                address,
+                ..Settings::DEFAULT
+            },
             short: true,
         }
     }
 
-    /// Short times, so that a few hundred ticks see all of them run out.
-    fn brisk(chance: &mut Chance, own: u64) -> Plan {
+    fn full(settings: Settings) -> Plan {
         Plan {
-            level: chance.pick(&[1, 1, 2, 2, 2]),
-            own,
-            wtr: chance.pick(&[0, 0, 0, 1]),
-            hold_off: chance.pick(&[0, 0, 0, 1, 2]),
-            keepalive: chance.pick(&[2, 3, 5, 10, 20, 50, 50]),
-            fast: chance.pick(&[1, 2, 3, 7]),
-            slow: chance.pick(&[1, 1, 2]),
-            forget: chance.pick(&[2, 2, 2, 3]),
-            short: false,
-        }
-    }
-
-    /// WTR that can run out within a drill.
-    fn waiting(chance: &mut Chance, own: u64) -> Plan {
-        Plan {
-            wtr: chance.pick(&[1, 1, 1, 2]),
-            keepalive: chance.pick(&[20, 40, 49, 50]),
-            forget: chance.pick(&[2, 5, 12, 600]),
-            fast: chance.pick(&[1, 5, 20]),
-            ..Plan::brisk(chance, own)
-        }
-    }
-
-    /// Hold-off of every size.
-    fn holding(chance: &mut Chance, own: u64) -> Plan {
-        Plan {
-            hold_off: chance.pick(&[1, 1, 2, 3, 5, 20]),
-            keepalive: chance.pick(&[5, 20, 50]),
-            forget: chance.pick(&[2, 5, 600]),
-            ..Plan::brisk(chance, own)
-        }
-    }
-
-    /// Anything in range, the ends most often.
-    fn anywhere(chance: &mut Chance, own: u64) -> Plan {
-        let between = |chance: &mut Chance, first: usize, last: usize| {
-            let any = chance.range(first, last);
-            chance.pick(&[first, last, any])
-        };
-        Plan {
-            level: between(chance, 1, 2) as u8,
-            own,
-            wtr: between(chance, 0, 1_440) as u16,
-            hold_off: between(chance, 0, 20) as u8,
-            keepalive: between(chance, 2, 50) as u8,
-            fast: between(chance, 1, 20) as u8,
-            slow: between(chance, 1, 200) as u8,
-            forget: between(chance, 2, 600) as u16,
+            settings,
             short: false,
         }
     }
@@ -111,14 +47,63 @@ impl Plan {
     /// The settings record.
     pub fn bytes(&self) -> Bytes {
         if self.short {
-            return record(33, &wire(self.own));
+            records::short_settings(self.settings.address)
+        } else {
+            records::settings(&self.settings)
         }
-        let mut body = vec![self.level];
-        body.extend(wire(self.own));
-        body.extend(self.wtr.to_le_bytes());
-        body.extend([self.hold_off, self.keepalive, self.fast, self.slow]);
-        body.extend(self.forget.to_le_bytes());
-        record(32, &body)
+    }
+}
+
+/// Short times, so that a few hundred ticks see all of them run out.
+fn brisk(chance: &mut Chance, address: u64) -> Settings {
+    Settings {
+        level: chance.pick(&[1, 1, 2, 2, 2]),
+        address,
+        wtr: chance.pick(&[0, 0, 0, 1]),
+        hold_off: chance.pick(&[0, 0, 0, 1, 2]),
+        keepalive: chance.pick(&[2, 3, 5, 10, 20, 50, 50]),
+        fast: chance.pick(&[1, 2, 3, 7]),
+        slow: chance.pick(&[1, 1, 2]),
+        forget: chance.pick(&[2, 2, 2, 3]),
+    }
+}
+
+/// WTR that can run out within a drill.
+fn waiting(chance: &mut Chance, address: u64) -> Settings {
+    Settings {
+        wtr: chance.pick(&[1, 1, 1, 2]),
+        keepalive: chance.pick(&[20, 40, 49, 50]),
+        forget: chance.pick(&[2, 5, 12, 600]),
+        fast: chance.pick(&[1, 5, 20]),
+        ..brisk(chance, address)
+    }
+}
+
+/// Hold-off of every size.
+fn holding(chance: &mut Chance, address: u64) -> Settings {
+    Settings {
+        hold_off: chance.pick(&[1, 1, 2, 3, 5, 20]),
+        keepalive: chance.pick(&[5, 20, 50]),
+        forget: chance.pick(&[2, 5, 600]),
+        ..brisk(chance, address)
+    }
+}
+
+/// Anything in range, the ends most often.
+fn anywhere(chance: &mut Chance, address: u64) -> Settings {
+    let between = |chance: &mut Chance, first: usize, last: usize| {
+        let any = chance.range(first, last);
+        chance.pick(&[first, last, any])
+    };
+    Settings {
+        level: between(chance, 1, 2) as u8,
+        address,
+        wtr: between(chance, 0, 1_440) as u16,
+        hold_off: between(chance, 0, 20) as u8,
+        keepalive: between(chance, 2, 50) as u8,
+        fast: between(chance, 1, 20) as u8,
+        slow: between(chance, 1, 200) as u8,
+        forget: between(chance, 2, 600) as u16,
     }
 }
 
@@ -159,16 +144,17 @@ pub fn refused(chance: &mut Chance) -> Bytes {
 /// One field out of its range, or an odd own address.
 fn out_of_range(chance: &mut Chance, mut plan: Plan) -> Bytes {
     plan.short = false;
+    let settings = &mut plan.settings;
     match chance.below(8) {
-        0 => plan.level = chance.pick(&[0, 3, 255]),
-        1 => plan.wtr = chance.pick(&[1_441, 0x0A00, 65_535]),
-        2 => plan.hold_off = chance.pick(&[21, 255]),
-        3 => plan.keepalive = chance.pick(&[0, 1, 51, 255]),
-        4 => plan.fast = chance.pick(&[0, 21, 255]),
-        5 => plan.slow = chance.pick(&[0, 201, 255]),
-        6 => plan.forget = chance.pick(&[0, 1, 601, 0x0A00, 65_535]),
+        0 => settings.level = chance.pick(&[0, 3, 255]),
+        1 => settings.wtr = chance.pick(&[1_441, 0x0A00, 65_535]),
+        2 => settings.hold_off = chance.pick(&[21, 255]),
+        3 => settings.keepalive = chance.pick(&[0, 1, 51, 255]),
+        4 => settings.fast = chance.pick(&[0, 21, 255]),
+        5 => settings.slow = chance.pick(&[0, 201, 255]),
+        6 => settings.forget = chance.pick(&[0, 1, 601, 0x0A00, 65_535]),
         _ => {
-            plan.own |= 1 << 40;
+            settings.address |= 1 << 40;
             plan.short = chance.percent(50);
         }
     }

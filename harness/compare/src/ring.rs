@@ -1,8 +1,9 @@
 //! The ring that a drill plays on: who sits where, and what each would report.
 //! Members stand in the order of their hops going west; going east is the way round from the other side.
 
+use text::records::Report;
+
 use crate::chance::Chance;
-use crate::records::Report;
 
 /// The greatest number of stations beside the own one.
 pub const LARGEST: usize = 63;

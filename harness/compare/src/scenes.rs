@@ -1,10 +1,11 @@
 //! Scenes of a drill: what happens on a ring, each with the rules that it strains.
 //! A scene leaves the spans as they are; the drill heals them now and then.
 
+use text::records::{self, Report};
+
 use crate::blocks;
 use crate::chance::Chance;
 use crate::maker::{Maker, NONE_DEAF};
-use crate::records::{self, Report};
 use crate::ring::{self, LARGEST};
 use crate::wild;
 
@@ -153,7 +154,7 @@ fn flap(m: &mut Maker) {
         let span = m.span();
         let status = m.chance.pick(&[0, 0, 1, 1, 2]);
         m.link(span, status);
-        let most = 2 + 10 * usize::from(m.plan.hold_off.min(3));
+        let most = 2 + 10 * usize::from(m.plan.settings.hold_off.min(3));
         let ticks = m.chance.below(most);
         m.ticks(ticks, NONE_DEAF);
         match m.chance.below(4) {
@@ -191,7 +192,7 @@ fn operate(m: &mut Maker) {
 fn silence(m: &mut Maker) {
     for _ in 0..m.chance.range(1, 4) {
         let deaf = m.chance.pick(&[[true, false], [false, true], [true, true]]);
-        let about = usize::from(m.plan.keepalive);
+        let about = usize::from(m.plan.settings.keepalive);
         let ticks = (about + m.chance.below(4)).saturating_sub(2);
         m.ticks(ticks, deaf);
         let span = m.span();
@@ -327,11 +328,11 @@ fn affordable(chance: &mut Chance, ticks: usize) -> bool {
 
 /// WTR runs out, or is broken off, with operator requests above it.
 fn wait(m: &mut Maker) {
-    let all = 1_000 * usize::from(m.plan.wtr);
+    let all = 1_000 * usize::from(m.plan.settings.wtr);
     let span = m.span();
     let bad = m.chance.pick(&[1, 2]);
     m.link(span, bad);
-    let hold_off = 10 * usize::from(m.plan.hold_off);
+    let hold_off = 10 * usize::from(m.plan.settings.hold_off);
     m.ticks(hold_off, NONE_DEAF);
     m.link(span, 0);
     if !affordable(&mut m.chance, all) {
@@ -368,7 +369,7 @@ fn above_wtr(m: &mut Maker, span: usize) {
 
 /// Members are heard, then most fall silent until they are forgotten.
 fn forget(m: &mut Maker) {
-    let all = 100 * usize::from(m.plan.forget);
+    let all = 100 * usize::from(m.plan.settings.forget);
     if !affordable(&mut m.chance, all) {
         return learn(m);
     }
@@ -412,8 +413,8 @@ fn renew(m: &mut Maker) {
 
 /// Ticks enough for the eight fast reports and slow ones, with a change somewhere.
 fn pace(m: &mut Maker) {
-    let fast = usize::from(m.plan.fast);
-    let mut slow = 50 * usize::from(m.plan.slow);
+    let fast = usize::from(m.plan.settings.fast);
+    let mut slow = 50 * usize::from(m.plan.settings.slow);
     if !affordable(&mut m.chance, 3 * slow) {
         slow = 50;
     }
@@ -430,14 +431,14 @@ fn pace(m: &mut Maker) {
     if m.chance.percent(50) {
         // The change comes within a tick: a span falls silent, and fast ones follow.
         let deaf = m.chance.pick(&[[true, false], [false, true]]);
-        let ticks = usize::from(m.plan.keepalive) + 3 * fast;
+        let ticks = usize::from(m.plan.settings.keepalive) + 3 * fast;
         m.ticks(ticks, deaf);
     }
 }
 
 /// Link statuses that come, change and go while hold-off runs.
 fn hold(m: &mut Maker) {
-    let all = 10 * usize::from(m.plan.hold_off);
+    let all = 10 * usize::from(m.plan.settings.hold_off);
     if all == 0 {
         return flap(m);
     }
@@ -472,7 +473,7 @@ fn block_round(m: &mut Maker) {
         let span = m.span() as u8;
         let at = m.ring.any(&mut m.chance);
         let address = match m.chance.below(20) {
-            0 => m.plan.own,
+            0 => m.plan.settings.address,
             1 => m.ring.free_address(&mut m.chance),
             2 => m.ring.members[at].address | 1 << 40,
             _ => m.ring.members[at].address,

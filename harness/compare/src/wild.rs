@@ -1,9 +1,10 @@
 //! Records that are wrong in one field or many, mutated records, and odd questions.
 
+use text::records::{self, record, wire, Bytes, Report};
+
 use crate::blocks;
 use crate::chance::Chance;
 use crate::maker::Maker;
-use crate::records::{self, record, wire, Bytes, Report};
 use crate::ring;
 
 /// Kinds that are not events, among them the good ones with a high byte added.
@@ -58,7 +59,7 @@ pub fn questions(m: &mut Maker) {
         let at = m.ring.any(&mut m.chance);
         let member = m.ring.members[at].address;
         match m.chance.below(8) {
-            0 => m.ask(m.plan.own),
+            0 => m.ask(m.plan.settings.address),
             1 => {
                 let address = m.ring.free_address(&mut m.chance);
                 m.ask(address);
@@ -129,7 +130,7 @@ fn short_event(chance: &mut Chance) -> Bytes {
 fn address(m: &mut Maker) -> u64 {
     let at = m.ring.any(&mut m.chance);
     let any = match m.chance.below(8) {
-        0 | 1 => m.plan.own,
+        0 | 1 => m.plan.settings.address,
         2 => m.ring.free_address(&mut m.chance),
         _ => m.ring.members[at].address,
     };

@@ -2,8 +2,7 @@
 
 use model::drill::say;
 use model::faults::RIGHT;
-
-use crate::program::{Desk, Program};
+use text::program::{Desk, Program, TIME_LIMIT};
 
 /// Settings, then the eight records of the worked drill.
 const WORKED: [&[u8]; 9] = [
@@ -22,7 +21,7 @@ const WORKED: [&[u8]; 9] = [
 
 /// Fails if the program cannot be run or says nothing at all. What it says is judged later.
 pub fn probe(program: &Program, desk: &Desk) -> Result<(), String> {
-    let said = program.say(&WORKED.concat(), desk)?;
+    let said = program.say(&WORKED.concat(), desk, Some(TIME_LIMIT))?;
     if let Some(ended) = said.ended {
         return Err(format!("the worked drill cannot be run: {ended}"));
     }

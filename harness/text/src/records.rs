@@ -1,10 +1,12 @@
-//! Bytes of the house records, as a drill needs them. Any field takes any byte.
+//! Bytes of the house records. Any field takes any byte.
 
 /// A record that comes with its length field.
 pub type Bytes = Vec<u8>;
 
 /// The greatest length of a record.
 pub const LONGEST: usize = 1_033;
+/// The most bytes of a block: what the longest record of kind 6 has room for.
+pub const LONGEST_BLOCK: usize = LONGEST - 9;
 
 /// A record of this kind and body.
 pub fn record(kind: u16, body: &[u8]) -> Bytes {
@@ -19,6 +21,11 @@ pub fn record(kind: u16, body: &[u8]) -> Bytes {
 pub fn wire(address: u64) -> [u8; 6] {
     let [_, _, rest @ ..] = address.to_be_bytes();
     rest
+}
+
+/// The address that six bytes are.
+pub fn address(wire: [u8; 6]) -> u64 {
+    wire.iter().fold(0, |sum, &byte| sum << 8 | u64::from(byte))
 }
 
 /// Kind 1.
@@ -42,7 +49,7 @@ pub fn operator(span: u8, request: u8) -> Bytes {
 }
 
 /// What kind 5 carries.
-#[derive(Clone, Copy, Debug)]
+#[derive(Clone, Copy, Debug, PartialEq, Eq)]
 pub struct Report {
     /// Span that hears it.
     pub span: u8,
@@ -75,20 +82,66 @@ pub fn attributes(span: u8, address: u64, block: &[u8]) -> Bytes {
     record(6, &body)
 }
 
+/// What kind 32 carries, in the units of the record.
+#[derive(Clone, Copy, Debug, PartialEq, Eq)]
+pub struct Settings {
+    /// Level.
+    pub level: u8,
+    /// The own address.
+    pub address: u64,
+    /// Wait to restore, in seconds.
+    pub wtr: u16,
+    /// Hold-off, in steps of 10 ms.
+    pub hold_off: u8,
+    /// Keepalive, in milliseconds.
+    pub keepalive: u8,
+    /// Between fast reports, in milliseconds.
+    pub fast: u8,
+    /// Between slow reports, in steps of 50 ms.
+    pub slow: u8,
+    /// Forget time, in steps of 100 ms.
+    pub forget: u16,
+}
+
+impl Settings {
+    /// The default settings of the rules; their address is zero.
+    pub const DEFAULT: Settings = Settings {
+        level: 2,
+        address: 0,
+        wtr: 10,
+        hold_off: 0,
+        keepalive: 3,
+        fast: 10,
+        slow: 2,
+        forget: 10,
+    };
+}
+
+/// Kind 32.
+pub fn settings(settings: &Settings) -> Bytes {
+    let mut body = vec![settings.level];
+    body.extend(wire(settings.address));
+    body.extend(settings.wtr.to_le_bytes());
+    body.extend([settings.hold_off, settings.keepalive]);
+    body.extend([settings.fast, settings.slow]);
+    body.extend(settings.forget.to_le_bytes());
+    record(32, &body)
+}
+
+/// Kind 33.
+pub fn short_settings(address: u64) -> Bytes {
+    record(33, &wire(address))
+}
+
 /// Kind 40, the drill program's own question.
 pub fn question(address: u64) -> Bytes {
     record(40, &wire(address))
 }
 
-/// Bytes in hex, two digits each.
-pub fn hex(bytes: &[u8]) -> String {
-    let digits: Vec<String> = bytes.iter().map(|byte| format!("{byte:02X}")).collect();
-    digits.join(" ")
-}
-
 #[cfg(test)]
 mod tests {
     use super::*;
+    use crate::hex::list;
 
     #[test]
     fn a_report_has_the_bytes_of_the_worked_drill() {
@@ -101,6 +154,18 @@ mod tests {
             requests: [0, 0],
         };
         let text = "0E 00 05 00 00 00 FF 02 00 00 00 00 02 07 00 00";
-        assert_eq!(hex(&report(&heard)), text);
+        assert_eq!(list(&report(&heard)), text);
+    }
+
+    #[test]
+    fn settings_have_the_bytes_of_the_worked_drill() {
+        let worked = Settings {
+            address: 0x0200_0000_0001,
+            wtr: 0,
+            keepalive: 50,
+            ..Settings::DEFAULT
+        };
+        let text = "11 00 20 00 02 02 00 00 00 00 01 00 00 00 32 0A 02 0A 00";
+        assert_eq!(list(&settings(&worked)), text);
     }
 }

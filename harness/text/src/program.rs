@@ -1,4 +1,4 @@
-//! The other program: found, run on a drill in a file of its own, and given up on if it hangs.
+//! The drill program, or another in its place: found, run on a drill in a file of its own, and given up on if it hangs.
 
 use std::env;
 use std::ffi::OsString;
@@ -10,8 +10,8 @@ use std::sync::mpsc;
 use std::thread;
 use std::time::Duration;
 
-/// How long one drill may take.
-const TIME_LIMIT: Duration = Duration::from_secs(120);
+/// How long one drill of many may take.
+pub const TIME_LIMIT: Duration = Duration::from_secs(120);
 /// The script that runs the proved program, from the root of the repository.
 const USUAL: [&str; 2] = ["drills", "run"];
 
@@ -64,15 +64,15 @@ impl Program {
         Ok(Program { words })
     }
 
-    /// Runs a drill in a desk's own files.
-    pub fn say(&self, drill: &[u8], desk: &Desk) -> Result<Said, String> {
+    /// Runs a drill in a desk's own files. Without a limit it may take any time.
+    pub fn say(&self, drill: &[u8], desk: &Desk, limit: Option<Duration>) -> Result<Said, String> {
         let file = desk.write(drill)?;
         let errors = desk.errors()?;
         let mut child = self
             .command(&file, errors)
             .spawn()
             .map_err(|error| format!("cannot run {}: {error}", self.name()))?;
-        let lines = match read_in_time(&mut child) {
+        let lines = match read_in_time(&mut child, limit) {
             Ok(lines) => lines,
             Err(trouble) => {
                 // Whether it is still there does not matter any more.
@@ -105,7 +105,7 @@ impl Program {
 }
 
 /// Reads standard output to its end, in a thread so that the wait can be cut short.
-fn read_in_time(child: &mut Child) -> Result<Vec<u8>, String> {
+fn read_in_time(child: &mut Child, limit: Option<Duration>) -> Result<Vec<u8>, String> {
     let Some(mut output) = child.stdout.take() else {
         return Err("no output".to_string());
     };
@@ -116,9 +116,10 @@ fn read_in_time(child: &mut Child) -> Result<Vec<u8>, String> {
         // Nobody listens any more if the time is over.
         let _ = sender.send(read);
     });
-    match receiver.recv_timeout(TIME_LIMIT) {
+    let limit = limit.unwrap_or(Duration::MAX);
+    match receiver.recv_timeout(limit) {
         Ok(read) => read.map_err(|error| format!("cannot read its output: {error}")),
-        Err(_) => Err(format!("no end after {} s", TIME_LIMIT.as_secs())),
+        Err(_) => Err(format!("no end after {} s", limit.as_secs())),
     }
 }
 
@@ -155,9 +156,9 @@ pub struct Room {
 
 impl Room {
     /// A directory that nobody else has.
-    pub fn new() -> Result<Room, String> {
+    pub fn new(purpose: &str) -> Result<Room, String> {
         Ok(Room {
-            directory: fresh_directory("compare")?,
+            directory: fresh_directory(purpose)?,
         })
     }
 

@@ -1,0 +1,44 @@
+//! After a change of the rules: the model's lines are written into texts, and the diff is then read.
+
+use std::fs;
+use std::path::Path;
+
+use model::drill::say;
+use model::faults::RIGHT;
+use text::accepting::accept;
+use text::program::cannot;
+use text::source::Source;
+
+use crate::voice::tell;
+
+/// Writes the model's lines into these texts; false if a line that is marked as worked out by hand is another one.
+pub fn accept_all(files: &[String]) -> Result<bool, String> {
+    // All are read before one is written.
+    let sources: Result<Vec<Source>, String> =
+        files.iter().map(|name| Source::read(name)).collect();
+    let mut agreed = true;
+    for (name, source) in files.iter().zip(sources?) {
+        agreed &= accept_one(name, &source)?;
+    }
+    Ok(agreed)
+}
+
+fn accept_one(name: &str, source: &Source) -> Result<bool, String> {
+    let Source::Text(text) = source else {
+        return Err(format!("{name} is no text"));
+    };
+    let said = say::<RIGHT>(&text.bytes());
+    let accepted = accept(text, &String::from_utf8_lossy(&said));
+    for (line, stands, model) in &accepted.kept {
+        tell(format!(
+            "{name}, line {line}: by hand '{stands}', the model says '{model}'; left as it is"
+        ));
+    }
+    let path = Path::new(name);
+    let before = fs::read(path).map_err(|error| cannot("read", path, &error))?;
+    if before != accepted.source.as_bytes() {
+        fs::write(path, &accepted.source).map_err(|error| cannot("write", path, &error))?;
+        tell(format!("{name}: written"));
+    }
+    Ok(accepted.kept.is_empty())
+}

@@ -1,0 +1,205 @@
+//! Writes lines into a text: every line printed stands behind its record then. What is marked as worked out by hand stays.
+
+use crate::expected::Expected;
+use crate::names::Names;
+use crate::reading::{Line, Text};
+use crate::record::Record;
+use crate::told::{Staged, Told};
+use crate::writing::words;
+
+/// A comment that begins so marks the whole line as worked out by hand.
+const BY_HAND: &str = "# by hand";
+/// A comment that begins so marks the result or the reply alone.
+const RESULT_BY_HAND: &str = "# result by hand";
+/// Words longer than this do not push '=>' to the right.
+const WIDEST: usize = 64;
+
+/// A text with its lines.
+pub struct Accepted {
+    /// The text.
+    pub source: String,
+    /// What is marked as worked out by hand and is not what was printed: the text's line, what stands there, what was printed.
+    pub kept: Vec<(usize, String, String)>,
+}
+
+/// One line of the new text.
+struct Row {
+    words: String,
+    expected: Option<Expected>,
+    comment: Option<String>,
+}
+
+/// Lays the printed lines into the text.
+pub fn accept(text: &Text, printed: &str) -> Accepted {
+    let staged = Staged::of(text, printed);
+    let mut kept = Vec::new();
+    let mut rows = Vec::new();
+    for (place, line) in text.lines.iter().enumerate() {
+        let mut new = rows_of(line, staged.line(place), &text.names);
+        for row in &mut new {
+            keep_by_hand(line, row, &mut kept);
+        }
+        rows.extend(new);
+    }
+    let width = rows.iter().filter(|row| row.expected.is_some());
+    let width = width
+        .map(|row| row.words.chars().count())
+        .filter(|&width| width <= WIDEST);
+    let width = width.max().unwrap_or(0);
+    let source = rows.iter().map(|row| row.text(width)).collect();
+    Accepted { source, kept }
+}
+
+impl Row {
+    fn text(&self, width: usize) -> String {
+        let mut text = self.words.clone();
+        if let Some(expected) = &self.expected {
+            text = format!("{text:width$}  => {expected}");
+        }
+        if let Some(comment) = &self.comment {
+            let gap = if text.is_empty() { "" } else { "  " };
+            text = format!("{text}{gap}{comment}");
+        }
+        text + "\n"
+    }
+}
+
+/// The rows of a line: one, or as many as a run needs so that all of its lines are told.
+fn rows_of(line: &Line, told: &[Told], names: &Names) -> Vec<Row> {
+    let alone = |expected| Row {
+        words: line.words.clone(),
+        expected,
+        comment: line.comment.clone(),
+    };
+    let groups: Vec<Vec<&Told>> = groups(told);
+    match &groups[..] {
+        [] => vec![alone(None)],
+        [group] => vec![alone(expected(group))],
+        _ => {
+            let mut rows: Vec<Row> = groups.iter().map(|group| row(group, names)).collect();
+            rows[0].comment = line.comment.clone();
+            rows
+        }
+    }
+}
+
+/// Ticks with lines that are alike but for the number go together.
+fn groups(told: &[Told]) -> Vec<Vec<&Told>> {
+    let mut groups: Vec<Vec<&Told>> = Vec::new();
+    for one in told {
+        match groups.last_mut() {
+            Some(group) if is_alike(group[0], one) => group.push(one),
+            _ => groups.push(vec![one]),
+        }
+    }
+    groups
+}
+
+fn is_alike(one: &Told, other: &Told) -> bool {
+    let rest = |told: &Told| {
+        told.line
+            .as_deref()
+            .and_then(numbered)
+            .map(|(_, rest)| rest)
+    };
+    let ticks = one.record == Record::Tick && other.record == Record::Tick;
+    ticks && rest(one) == rest(other)
+}
+
+fn row(group: &[&Told], names: &Names) -> Row {
+    let words = match group.len() {
+        1 => words(&group[0].record, names),
+        ticks => format!("tick {ticks}"),
+    };
+    Row {
+        words,
+        expected: expected(group),
+        comment: None,
+    }
+}
+
+/// What is to be expected of records that go together.
+fn expected(group: &[&Told]) -> Option<Expected> {
+    let first = group.first()?.line.as_deref()?;
+    let last = group.last()?.line.as_deref()?;
+    if let Some(refusal) = first.strip_prefix("settings ") {
+        return Some(Expected::Settings(refusal.to_string()));
+    }
+    let (from, rest) = numbered(first)?;
+    let (to, _) = numbered(last)?;
+    Some(match group.len() {
+        1 => Expected::Last(from, rest),
+        _ => Expected::Each(from, to, rest),
+    })
+}
+
+fn numbered(line: &str) -> Option<(u64, String)> {
+    let (number, rest) = line.split_once(' ')?;
+    Some((number.parse().ok()?, rest.to_string()))
+}
+
+/// Puts back what was worked out by hand, if it is not what was printed.
+fn keep_by_hand(line: &Line, row: &mut Row, kept: &mut Vec<(usize, String, String)>) {
+    let comment = line.comment.as_deref().unwrap_or("");
+    let (Some(old), Some(new)) = (&line.expected, &row.expected) else {
+        return;
+    };
+    let stays = if comment.starts_with(BY_HAND) {
+        old.rest() == new.rest()
+    } else if comment.starts_with(RESULT_BY_HAND) {
+        result(old) == result(new)
+    } else {
+        true
+    };
+    if !stays {
+        kept.push((line.number, old.to_string(), new.to_string()));
+        row.expected = line.expected.clone();
+    }
+}
+
+/// The result of a line, or the reply with the word before it.
+fn result(expected: &Expected) -> Vec<&str> {
+    let fields = expected.rest().split(' ');
+    let count = if expected.rest().starts_with("way") {
+        2
+    } else {
+        1
+    };
+    fields.take(count).collect()
+}
+
+#[cfg(test)]
+mod tests {
+    use super::*;
+
+    fn accepted(source: &str, printed: &str) -> (String, usize) {
+        let text = Text::read(source.as_bytes()).unwrap();
+        let accepted = accept(&text, printed);
+        (accepted.source, accepted.kept.len())
+    }
+
+    #[test]
+    fn a_run_is_parted_where_its_lines_change() {
+        let printed = "1 0 0 0 0 0 0\n2 0 0 0 0 0 0\n3 0 0 0 0 0 1\n";
+        let source = "# why\nsettings short\ntick 3 # three\n";
+        let wanted = "# why\nsettings short\ntick 2  => 1..2 0 0 0 0 0 0  # three\ntick    => 3 0 0 0 0 0 1\n";
+        assert_eq!(accepted(source, printed), (wanted.to_string(), 0));
+        assert_eq!(
+            accepted(wanted, printed),
+            (wanted.to_string(), 0),
+            "once more changes nothing"
+        );
+    }
+
+    #[test]
+    fn what_was_worked_out_by_hand_stays() {
+        let source = "settings short\ntick => 1 0 4 0 0 0 1 # by hand\n";
+        let (text, kept) = accepted(source, "1 0 0 0 0 0 0\n");
+        assert!(text.contains("=> 1 0 4 0 0 0 1") && kept == 1);
+        let source = "settings short\ntick => 1 0 4 0 0 0 1 # result by hand\n";
+        let (text, kept) = accepted(source, "1 0 0 0 0 0 0\n");
+        assert!(text.contains("=> 1 0 0 0 0 0 0") && kept == 0);
+        let (_, kept) = accepted(source, "1 3 0 0 0 0 0\n");
+        assert_eq!(kept, 1);
+    }
+}

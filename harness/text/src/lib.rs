@@ -1,0 +1,23 @@
+//! Drills as people write and read them: the text of a drill, its bytes, words beside what the program prints, and a picture.
+//! It knows the form of records and of lines, and leaves the rules to the program that it runs; it shares no code with the model.
+
+pub mod accepting;
+pub mod checking;
+pub mod codes;
+pub mod command;
+pub mod entries;
+pub mod expected;
+pub mod hex;
+pub mod names;
+pub mod pieces;
+pub mod program;
+pub mod reading;
+pub mod record;
+pub mod records;
+pub mod said;
+pub mod saying;
+pub mod slip;
+pub mod source;
+pub mod told;
+pub mod words;
+pub mod writing;

@@ -1,0 +1,160 @@
+//! The records of a drill beside the lines that the program printed for them.
+
+use std::ops::Range;
+
+use crate::pieces::{is_whole, pieces};
+use crate::reading::Text;
+use crate::record::Record;
+
+/// A record and its line.
+#[derive(Clone, Debug, PartialEq, Eq)]
+pub struct Told {
+    /// Bytes of the drill before the record.
+    pub start: usize,
+    /// The record.
+    pub record: Record,
+    /// The line printed for it, without its end.
+    pub line: Option<String>,
+}
+
+/// A whole drill with what was printed.
+#[derive(Clone, Debug, Default)]
+pub struct Play {
+    /// Each record that was there to be read, settings first.
+    pub told: Vec<Told>,
+    /// Lines that no record accounts for.
+    pub beyond: Vec<String>,
+}
+
+/// Lays the lines beside the records: `settings N` beside the first, any other beside those behind it.
+pub fn play(bytes: &[u8], printed: &str) -> Play {
+    let mut lines = printed.lines().map(str::to_string).peekable();
+    let refused = lines
+        .peek()
+        .is_some_and(|line| line.starts_with("settings "));
+    let mut play = Play::default();
+    let mut start = 0;
+    let mut ended = false;
+    for (place, piece) in pieces(bytes).into_iter().enumerate() {
+        let has_line = if place == 0 {
+            refused
+        } else {
+            !refused && !ended
+        };
+        let line = if has_line { lines.next() } else { None };
+        play.told.push(Told {
+            start,
+            record: Record::of(piece),
+            line,
+        });
+        start += piece.len();
+        ended = !is_whole(piece);
+    }
+    play.beyond = lines.collect();
+    play
+}
+
+/// A text with what was printed: for each of its lines, the records that begin in it.
+pub struct Staged {
+    /// The drill as a whole.
+    pub play: Play,
+    /// Places in `play.told`, one range for each line of the text.
+    pub of_line: Vec<Range<usize>>,
+}
+
+impl Staged {
+    /// Lays the lines beside the text. An empty drill's only line goes to the first line that has a record.
+    pub fn of(text: &Text, printed: &str) -> Staged {
+        let (bytes, places) = text.places();
+        let mut play = play(&bytes, printed);
+        if play.told.is_empty() && text.lines.iter().any(|line| line.run.is_some()) {
+            let line = (!play.beyond.is_empty()).then(|| play.beyond.remove(0));
+            play.told.push(Told {
+                start: 0,
+                record: Record::Bytes(Vec::new()),
+                line,
+            });
+        }
+        let mut of_line = Vec::new();
+        let mut next = 0;
+        for (line, place) in text.lines.iter().zip(places) {
+            let first = next;
+            let begins_here =
+                |told: &Told| told.start < place.end || place.is_empty() && bytes.is_empty();
+            while line.run.is_some() && play.told.get(next).is_some_and(begins_here) {
+                next += 1;
+            }
+            of_line.push(first..next);
+        }
+        Staged { play, of_line }
+    }
+
+    /// The records of a line of the text.
+    pub fn line(&self, place: usize) -> &[Told] {
+        match self.of_line.get(place) {
+            Some(range) => &self.play.told[range.clone()],
+            None => &[],
+        }
+    }
+
+    /// The lines printed for a line of the text.
+    pub fn printed(&self, place: usize) -> Vec<&str> {
+        let told = self.line(place).iter();
+        told.filter_map(|told| told.line.as_deref()).collect()
+    }
+}
+
+#[cfg(test)]
+mod tests {
+    use super::*;
+
+    fn staged(source: &str, printed: &str) -> Vec<Vec<String>> {
+        let text = Text::read(source.as_bytes()).unwrap();
+        let staged = Staged::of(&text, printed);
+        let lines = 0..text.lines.len();
+        lines
+            .map(|place| {
+                staged
+                    .printed(place)
+                    .iter()
+                    .map(|line| line.to_string())
+                    .collect()
+            })
+            .collect()
+    }
+
+    #[test]
+    fn each_line_gets_what_begins_in_it() {
+        let printed = "1 0 0 0 0 0 0\n2 0 0 0 0 0 0\n3 way 3\n";
+        let lines = staged(
+            "# one\nsettings short\ntick 2\nway 02-00-00-00-00-02\n",
+            printed,
+        );
+        let counts: Vec<usize> = lines.iter().map(Vec::len).collect();
+        assert_eq!(counts, [0, 0, 2, 1]);
+    }
+
+    #[test]
+    fn refused_settings_and_an_empty_drill_have_their_line() {
+        assert_eq!(
+            staged("tick\ntick\n", "settings 3\n"),
+            [vec!["settings 3".to_string()], vec![]]
+        );
+        assert_eq!(
+            staged("# none\nbytes\n", "settings 2\n"),
+            [vec![], vec!["settings 2".to_string()]]
+        );
+    }
+
+    #[test]
+    fn nothing_is_read_behind_a_bad_length() {
+        let lines = staged("settings short\nbytes 00 00\ntick\n", "1 2\n");
+        assert_eq!(lines, [vec![], vec!["1 2".to_string()], vec![]]);
+    }
+
+    #[test]
+    fn lines_that_no_record_accounts_for_are_kept() {
+        let play = play(&[2, 0, 1, 0], "settings 3\n1 0 0 0 0 0 0\n");
+        assert_eq!(play.beyond, ["1 0 0 0 0 0 0"]);
+    }
+}
