@@ -5,7 +5,7 @@ use std::path::Path;
 
 use model::drill::say;
 use model::faults::RIGHT;
-use text::accepting::accept;
+use text::accepting::{accept, Kept};
 use text::program::cannot;
 use text::source::Source;
 
@@ -29,9 +29,14 @@ fn accept_one(name: &str, source: &Source) -> Result<bool, String> {
     };
     let said = say::<RIGHT>(&text.bytes());
     let accepted = accept(text, &String::from_utf8_lossy(&said));
-    for (line, stands, model) in &accepted.kept {
+    for kept in &accepted.kept {
+        let Kept {
+            line,
+            stands,
+            printed,
+        } = kept;
         tell(format!(
-            "{name}, line {line}: by hand '{stands}', the model says '{model}'; left as it is"
+            "{name}, line {line}: by hand '{stands}', the model says '{printed}'; left as it is"
         ));
     }
     let path = Path::new(name);

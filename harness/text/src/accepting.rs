@@ -4,13 +4,16 @@ use crate::expected::Expected;
 use crate::names::Names;
 use crate::reading::{Line, Text};
 use crate::record::Record;
+use crate::said::Said;
 use crate::told::{Staged, Told};
 use crate::writing::words;
 
-/// A comment that begins so marks the whole line as worked out by hand.
+/// Behind a record: its whole line was worked out by hand.
 const BY_HAND: &str = "# by hand";
-/// A comment that begins so marks the result or the reply alone.
-const RESULT_BY_HAND: &str = "# result by hand";
+/// On a line of its own: so were the results and replies of all lines.
+const RESULTS_BY_HAND: &str = "# results by hand";
+/// On a line of its own: so was the number of all reports sent, which stands behind it.
+const REPORTS_BY_HAND: &str = "# reports by hand: ";
 /// Words longer than this do not push '=>' to the right.
 const WIDEST: usize = 64;
 
@@ -18,8 +21,19 @@ const WIDEST: usize = 64;
 pub struct Accepted {
     /// The text.
     pub source: String,
-    /// What is marked as worked out by hand and is not what was printed: the text's line, what stands there, what was printed.
-    pub kept: Vec<(usize, String, String)>,
+    /// What is marked as worked out by hand and is not what was printed.
+    pub kept: Vec<Kept>,
+}
+
+/// A line of a text that stays, though something else was printed.
+#[derive(Clone, Debug, PartialEq, Eq)]
+pub struct Kept {
+    /// The line's number, from 1.
+    pub line: usize,
+    /// What stands there.
+    pub stands: String,
+    /// What was printed.
+    pub printed: String,
 }
 
 /// One line of the new text.
@@ -32,12 +46,17 @@ struct Row {
 /// Lays the printed lines into the text.
 pub fn accept(text: &Text, printed: &str) -> Accepted {
     let staged = Staged::of(text, printed);
-    let mut kept = Vec::new();
+    let results = text.lines.iter().any(|line| marked(line, RESULTS_BY_HAND));
+    let mut kept: Vec<Kept> = text
+        .lines
+        .iter()
+        .filter_map(|line| reports_kept(line, printed))
+        .collect();
     let mut rows = Vec::new();
     for (place, line) in text.lines.iter().enumerate() {
         let mut new = rows_of(line, staged.line(place), &text.names);
         for row in &mut new {
-            keep_by_hand(line, row, &mut kept);
+            kept.extend(keep_by_hand(line, row, results));
         }
         rows.extend(new);
     }
@@ -138,23 +157,38 @@ fn numbered(line: &str) -> Option<(u64, String)> {
     Some((number.parse().ok()?, rest.to_string()))
 }
 
+fn marked(line: &Line, mark: &str) -> bool {
+    line.comment
+        .as_deref()
+        .is_some_and(|comment| comment.starts_with(mark))
+}
+
+/// The number of reports that was worked out by hand, if another number was printed.
+fn reports_kept(line: &Line, printed: &str) -> Option<Kept> {
+    let stands = line.comment.as_deref()?.strip_prefix(REPORTS_BY_HAND)?;
+    let full = printed.lines().filter_map(|line| match Said::of(line)? {
+        Said::Line(_, answer) => answer.full().map(|full| u64::from(full.reports)),
+        Said::Settings(_) => None,
+    });
+    let reports: u64 = full.sum();
+    (stands.trim() != reports.to_string()).then(|| Kept {
+        line: line.number,
+        stands: format!("{stands} reports"),
+        printed: format!("{reports} reports"),
+    })
+}
+
 /// Puts back what was worked out by hand, if it is not what was printed.
-fn keep_by_hand(line: &Line, row: &mut Row, kept: &mut Vec<(usize, String, String)>) {
-    let comment = line.comment.as_deref().unwrap_or("");
-    let (Some(old), Some(new)) = (&line.expected, &row.expected) else {
-        return;
-    };
-    let stays = if comment.starts_with(BY_HAND) {
-        old.rest() == new.rest()
-    } else if comment.starts_with(RESULT_BY_HAND) {
-        result(old) == result(new)
-    } else {
-        true
-    };
-    if !stays {
-        kept.push((line.number, old.to_string(), new.to_string()));
-        row.expected = line.expected.clone();
-    }
+fn keep_by_hand(line: &Line, row: &mut Row, results: bool) -> Option<Kept> {
+    let (old, new) = (line.expected.as_ref()?, row.expected.take()?);
+    let whole = marked(line, BY_HAND) && old.rest() != new.rest();
+    let differs = whole || results && result(old) != result(&new);
+    row.expected = Some(if differs { old.clone() } else { new.clone() });
+    differs.then(|| Kept {
+        line: line.number,
+        stands: old.to_string(),
+        printed: new.to_string(),
+    })
 }
 
 /// The result of a line, or the reply with the word before it.
@@ -196,10 +230,20 @@ mod tests {
         let source = "settings short\ntick => 1 0 4 0 0 0 1 # by hand\n";
         let (text, kept) = accepted(source, "1 0 0 0 0 0 0\n");
         assert!(text.contains("=> 1 0 4 0 0 0 1") && kept == 1);
-        let source = "settings short\ntick => 1 0 4 0 0 0 1 # result by hand\n";
+        let source = "# results by hand\nsettings short\ntick => 1 0 4 0 0 0 1\n";
         let (text, kept) = accepted(source, "1 0 0 0 0 0 0\n");
         assert!(text.contains("=> 1 0 0 0 0 0 0") && kept == 0);
-        let (_, kept) = accepted(source, "1 3 0 0 0 0 0\n");
-        assert_eq!(kept, 1);
+        let (text, kept) = accepted(source, "1 3 0 0 0 0 0\n");
+        assert!(text.contains("=> 1 0 4 0 0 0 1") && kept == 1);
+        let source = "# reports by hand: 1\nsettings short\ntick\n";
+        assert_eq!(accepted(source, "1 0 0 0 0 0 1\n").1, 0);
+        assert_eq!(accepted(source, "1 0 0 0 0 0 0\n").1, 1);
+    }
+
+    #[test]
+    fn a_record_put_in_between_only_moves_the_numbers() {
+        let source = "settings short\ntick\ntick => 1 0 4 0 0 0 1 # by hand\n";
+        let (text, kept) = accepted(source, "1 0 0 0 0 0 0\n2 0 4 0 0 0 1\n");
+        assert!(text.contains("=> 2 0 4 0 0 0 1") && kept == 0, "{text}");
     }
 }

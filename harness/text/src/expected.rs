@@ -92,7 +92,7 @@ fn rest(words: &mut Words) -> Result<String, Slip> {
         return Ok(format!("way {reply}"));
     }
     let could = || "a result, a refusal (2 or 4), or way".to_string();
-    let result: u8 = words.value(|word| decimal(word), could)?;
+    let result: u8 = words.value(decimal, could)?;
     if words.peek().is_none() && [2, 4].contains(&result) {
         return Ok(result.to_string());
     }
