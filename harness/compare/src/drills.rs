@@ -106,12 +106,36 @@ fn last_record(m: &mut Maker) -> Bytes {
 
 #[cfg(test)]
 mod tests {
+    use std::thread;
+
+    use text::reading::Text;
+    use text::record::Record;
+    use text::writing;
+
     use super::*;
 
     #[test]
     fn a_seed_gives_one_drill() {
         assert_eq!(Drill::of(17), Drill::of(17));
         assert_ne!(Drill::of(17), Drill::of(18));
+    }
+
+    fn same_text(seed: u64) {
+        let bytes = Drill::of(seed).bytes();
+        let written = writing::text(&bytes);
+        let text = Text::read(written.as_bytes()).unwrap();
+        assert!(text.bytes() == bytes, "seed {seed}");
+        let runs = text.lines.iter().filter_map(|line| line.run.as_ref());
+        let records: Vec<Record> = runs.flat_map(|run| run.records()).collect();
+        assert!(writing::plain(&records) == written, "seed {seed}");
+    }
+
+    #[test]
+    fn text_to_bytes_to_text_is_the_same() {
+        thread::scope(|scope| {
+            scope.spawn(|| (1..=5_000).for_each(same_text));
+            (5_001..=10_000).for_each(same_text);
+        });
     }
 
     #[test]

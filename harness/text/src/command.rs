@@ -222,6 +222,11 @@ fn one_of_all(name: &str, program: &Program, desk: &Desk) -> Result<(), String> 
     let Source::Text(text) = Source::read(name)? else {
         return Err(format!("{name} is no text"));
     };
+    if text.lines.first().is_none_or(|line| line.comment.is_none()) {
+        return Err(format!(
+            "{name} does not say in its first line what it shows"
+        ));
+    }
     let said = program.say(&text.bytes(), desk, Some(TIME_LIMIT))?;
     if let Some(ended) = said.ended {
         return Err(format!("{name}: the program ended badly: {ended}"));

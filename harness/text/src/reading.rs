@@ -10,7 +10,7 @@ use crate::names::{is_name, Names};
 use crate::record::Record;
 use crate::records::{self, Bytes, Report, Settings, LONGEST_BLOCK};
 use crate::slip::{Mistake, Slip};
-use crate::words::{code_words, Words};
+use crate::words::{code, code_words, Words};
 
 /// The most ticks that one line stands for.
 const MOST_TICKS: u64 = 10_000_000;
@@ -18,8 +18,18 @@ const MOST_TICKS: u64 = 10_000_000;
 const MOST_BYTES: u64 = 1 << 26;
 const TOO_LONG: &str = "less: a drill has at most 64 MiB";
 /// The first words of a line.
-const FIRST: &str =
-    "name, settings, tick, link, keepalive, operator, report, attributes, way, bytes, '#' or the end of the line";
+const FIRST: &[&str] = &[
+    "name",
+    "settings",
+    "tick",
+    "link",
+    "keepalive",
+    "operator",
+    "report",
+    "attributes",
+    "way",
+    "bytes",
+];
 
 /// A text that has been read.
 #[derive(Clone, Debug, Default)]
@@ -195,12 +205,10 @@ fn take_bytes(run: Option<&Run>, words: &Words, left: &mut u64) -> Result<(), Sl
 
 /// What the words of a line stand for; none if the line has none, or gives a name.
 fn content(words: &mut Words, names: &mut Names) -> Result<Option<Run>, Slip> {
-    let Some(first) = words.peek() else {
+    if words.peek().is_none() {
         return Ok(None);
-    };
-    let slip = words.slip(FIRST);
-    words.take();
-    let record = match &first.to_ascii_lowercase()[..] {
+    }
+    let record = match words.one_of(FIRST)? {
         "name" => return name(words, names).map(|()| None),
         "tick" => return ticks(words).map(Some),
         "settings" => settings(words, names)?,
@@ -210,8 +218,7 @@ fn content(words: &mut Words, names: &mut Names) -> Result<Option<Run>, Slip> {
         "report" => report(words, names)?,
         "attributes" => attributes(words, names)?,
         "way" => Record::Way(address(words, names)?),
-        "bytes" => Record::Bytes(bytes(words)?),
-        _ => return Err(slip),
+        _ => Record::Bytes(bytes(words)?),
     };
     Ok(Some(Run::once(record)))
 }
@@ -252,9 +259,8 @@ fn ticks(words: &mut Words) -> Result<Run, Slip> {
     }
     run.times = words.number(1, MOST_TICKS)?;
     if words.peek().is_some() {
-        let slip = words.slip("keepalive, '=>', '#' or the end of the line");
         if !words.take_if("keepalive") {
-            return Err(slip);
+            return Err(words.slip("keepalive, '=>', '#' or the end of the line"));
         }
         run.alive = Some(words.number(1, MOST_TICKS)?);
     }
@@ -330,9 +336,11 @@ fn report(words: &mut Words, names: &Names) -> Result<Record, Slip> {
                 _ => report.ringlet = words.byte()?,
             }
         } else {
-            let could = [&left[..], &["west and east request"]].concat().join(", ");
-            let slip = words.slip(format!("{could} ({})", code_words(REQUESTS)));
-            let west = words.code(REQUESTS).map_err(|_| slip)?;
+            let could = || {
+                let words = [&left[..], &["west and east request"]].concat();
+                format!("{} ({})", words.join(", "), code_words(REQUESTS))
+            };
+            let west = words.value(|word| code(REQUESTS, word), could)?;
             report.requests = [west, words.code(REQUESTS)?];
             break;
         }

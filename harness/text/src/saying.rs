@@ -11,24 +11,21 @@ use crate::writing::words;
 /// A row of the table: the line, the record, what became of it, where the node stands.
 struct Row([String; 4]);
 
+/// Cells wider than this do not widen their column.
+const WIDEST: usize = 66;
+
 /// The drill's lines with words beside them.
 pub fn say(play: &Play, names: &Names) -> String {
-    let rows: Vec<Row> = play.told.iter().map(|told| row(told, names)).collect();
+    let told = play.told.iter().enumerate();
+    let rows = told.map(|(place, told)| row(told, place == 0, names));
     let beyond = play.beyond.iter().map(|line| {
-        Row([
-            line.clone(),
-            "no record".into(),
-            String::new(),
-            String::new(),
-        ])
+        let record = "no record".to_string();
+        Row([line.clone(), record, String::new(), String::new()])
     });
-    let rows: Vec<Row> = rows.into_iter().chain(beyond).collect();
+    let rows: Vec<Row> = rows.chain(beyond).collect();
     let widths: Vec<usize> = (0..3).map(|column| width(&rows, column)).collect();
     rows.iter().map(|row| row.text(&widths)).collect()
 }
-
-/// Cells wider than this do not widen their column.
-const WIDEST: usize = 56;
 
 fn width(rows: &[Row], column: usize) -> usize {
     let cells = rows.iter().map(|row| row.0[column].chars().count());
@@ -45,13 +42,13 @@ impl Row {
     }
 }
 
-fn row(told: &Told, names: &Names) -> Row {
+fn row(told: &Told, is_first: bool, names: &Names) -> Row {
     let line = told.line.clone().unwrap_or_default();
     let record = words(&told.record, names);
     let said = told.line.as_deref().map(Said::of);
     let (result, stand) = match (said, &told.record) {
-        (None, Record::Settings(settings)) => (times(settings), String::new()),
-        (None, Record::ShortSettings(_)) => (times(&Settings::DEFAULT), String::new()),
+        (None, Record::Settings(settings)) if is_first => (times(settings), String::new()),
+        (None, Record::ShortSettings(_)) if is_first => (times(&Settings::DEFAULT), String::new()),
         (None, _) => ("not read: the drill has ended".to_string(), String::new()),
         (Some(None), _) => ("no line of the program".to_string(), String::new()),
         (Some(Some(Said::Settings(refusal))), _) => (refused_settings(refusal), String::new()),
@@ -109,11 +106,8 @@ fn result(result: u8, record: &Record) -> String {
         0 => ("taken", taken(record)),
         1 => ("no room", "refused"),
         2 => ("wrong length", "refused"),
-        3 => ("unknown kind", "refused"),
-        4 => (
-            "wrong body length, field out of range or odd address",
-            "refused",
-        ),
+        3 => ("not an event", "refused"),
+        4 => (bad_field(record), "refused"),
         5 => ("own address heard", "refused"),
         6 => ("hop above 63", "refused"),
         7 => ("attributes of a station not in the table", "refused"),
@@ -128,6 +122,27 @@ fn result(result: u8, record: &Record) -> String {
     match then {
         "" => format!("{what} ({result})"),
         then => format!("{what} ({result}): {then}"),
+    }
+}
+
+/// Why a record was refused with 4: the first field of it that is out of range.
+fn bad_field(record: &Record) -> &'static str {
+    let is_odd = |address: u64| address >> 40 & 1 == 1;
+    match record {
+        Record::Bytes(_) => "wrong body length",
+        Record::Link(2.., _)
+        | Record::Keepalive(2..)
+        | Record::Operator(2.., _)
+        | Record::Report(Report { span: 2.., .. })
+        | Record::Attributes(2.., ..) => "span above 1",
+        Record::Link(..) => "unknown status",
+        Record::Operator(..) => "unknown operator request",
+        Record::Report(Report { ringlet: 2.., .. }) => "ringlet above 1",
+        Record::Report(Report { ttl: 0, .. }) => "TTL 0",
+        Record::Report(report) if is_odd(report.address) => "odd first address byte",
+        Record::Report(_) => "reported request above 5",
+        Record::Attributes(_, address, _) if is_odd(*address) => "odd first address byte",
+        _ => "field out of range",
     }
 }
 
@@ -159,4 +174,45 @@ fn stand(full: &Full) -> String {
         reports => format!(", {reports} reports sent, the last {}", full.sequence),
     };
     format!("west {west}, east {east}, {stations}{sent}")
+}
+
+#[cfg(test)]
+mod tests {
+    use super::*;
+    use crate::reading::Text;
+    use crate::told::play;
+
+    fn said(source: &str, printed: &str) -> String {
+        let text = Text::read(source.as_bytes()).unwrap();
+        say(&play(&text.bytes(), printed), &text.names)
+    }
+
+    #[test]
+    fn each_line_has_its_words() {
+        let source = "name B 02-00-00-00-00-02\nsettings short\nreport west from B hop 1 sequence 134\nway B\noperator east fs\n";
+        let said = said(source, "1 22 0 0 2 1 0\n2 way 0\n3 0 0 5 3 1 1\n");
+        for words in [
+            "keepalive 3 ms, reports 10 and 100 ms, forget 1000 ms",
+            "| report west from B hop 1 sequence 134 idle idle  | old report (22): nothing stored  | west IDLE, east IDLE, 1 station\n",
+            "| west (0)\n",
+            "| taken (0)                        | west IDLE, east FS, 1 station, report 3 sent\n",
+        ] {
+            assert!(said.contains(words), "{words}\n{said}");
+        }
+    }
+
+    #[test]
+    fn refusals_and_the_end_have_their_reasons() {
+        let source = "settings short\nlink 2 good\nbytes 03 00 01 00 00\nbytes 00 00\ntick\n";
+        let said = said(source, "1 4 0 0 0 0 0\n2 4 0 0 0 0 0\n3 2\n");
+        for words in [
+            "span above 1 (4): refused",
+            "wrong body length (4): refused",
+            "(2): the drill ends",
+        ] {
+            assert!(said.contains(words), "{words}\n{said}");
+        }
+        assert!(super::tests::said("tick\n", "settings 3\n")
+            .contains("not a settings record (3): the drill ends"));
+    }
 }

@@ -106,8 +106,13 @@ impl<'t> Words<'t> {
 
     /// Takes one of a list's words, or a number of one byte.
     pub fn code(&mut self, list: &[&str]) -> Result<u8, Slip> {
-        let read = |word: &str| codes::number(list, word).or_else(|| hex::decimal(word));
-        self.value(read, || code_words(list))
+        self.value(|word| code(list, word), || code_words(list))
+    }
+
+    /// Takes one of these words, in small or large letters.
+    pub fn one_of<'l>(&mut self, list: &[&'l str]) -> Result<&'l str, Slip> {
+        let read = |word: &str| list.iter().find(|name| name.eq_ignore_ascii_case(word));
+        self.value(|word| read(word).copied(), || list.join(", "))
     }
 
     /// Nothing may stand behind the last word.
@@ -117,6 +122,11 @@ impl<'t> Words<'t> {
             Some(_) => Err(self.slip("'=>', '#' or the end of the line")),
         }
     }
+}
+
+/// The number of one of a list's words, or a number of one byte.
+pub fn code(list: &[&str], word: &str) -> Option<u8> {
+    codes::number(list, word).or_else(|| hex::decimal(word))
 }
 
 /// A list's words, to be shown.

@@ -1,0 +1,170 @@
+//! The program as a whole: what it prints and its exit status, with a program in the drill's place that says fixed lines.
+
+use std::env;
+use std::fs;
+use std::path::PathBuf;
+use std::process::{Command, Output};
+
+const TEXT: &str = env!("CARGO_BIN_EXE_text");
+
+const WORKED: &str = "\
+name B 02-00-00-00-00-02
+settings address 02-00-00-00-00-01 wtr 0 keepalive 50 forget 10
+report west from B hop 1 sequence 7 idle idle        => 1 0 0 0 0 1 0
+way B                                                => 2 way 0
+";
+const LINES: &str = "1 0 0 0 0 1 0\n2 way 0\n";
+
+/// A directory of one test, removed at its end.
+struct Place(PathBuf);
+
+impl Place {
+    fn new(test: &str) -> Place {
+        let place = env::temp_dir().join(format!("text-test-{test}-{}", std::process::id()));
+        fs::create_dir_all(&place).unwrap();
+        Place(place)
+    }
+
+    fn file(&self, name: &str, content: impl AsRef<[u8]>) -> String {
+        let path = self.0.join(name);
+        fs::write(&path, content).unwrap();
+        path.display().to_string()
+    }
+
+    /// Runs with a program that says these lines to any drill.
+    fn run(&self, lines: &str, arguments: &[&str]) -> Output {
+        let said = self.file("said", lines);
+        let program = self.file("program", format!("cat '{said}'\n"));
+        let command = format!("sh {program}");
+        Command::new(TEXT)
+            .args(["--drill", &command])
+            .args(arguments)
+            .current_dir(&self.0)
+            .output()
+            .unwrap()
+    }
+}
+
+impl Drop for Place {
+    fn drop(&mut self) {
+        let _ = fs::remove_dir_all(&self.0);
+    }
+}
+
+fn output(output: &Output) -> (Option<i32>, String, String) {
+    let text = |bytes: &[u8]| String::from_utf8_lossy(bytes).into_owned();
+    (
+        output.status.code(),
+        text(&output.stdout),
+        text(&output.stderr),
+    )
+}
+
+#[test]
+fn what_is_expected_is_0() {
+    let place = Place::new("good");
+    let file = place.file("a.drill", WORKED);
+    assert_eq!(
+        output(&place.run(LINES, &[&file])),
+        (Some(0), LINES.into(), "".into())
+    );
+}
+
+#[test]
+fn a_difference_is_1_and_stands_side_by_side() {
+    let place = Place::new("differs");
+    let file = place.file("a.drill", WORKED);
+    let other = "1 0 0 0 0 2 0\n2 way 0\n";
+    let (status, said, complained) = output(&place.run(other, &[&file]));
+    assert_eq!((status, &said[..]), (Some(1), other));
+    let row = "   3   1 0 0 0 0 1 0   1 0 0 0 0 2 0   report west from B hop 1 sequence 7 idle idle (differs in stations)\n";
+    assert!(complained.contains(row), "{complained}");
+}
+
+#[test]
+fn a_mistake_is_2_and_nothing_is_run() {
+    let place = Place::new("mistake");
+    let file = place.file("a.drill", WORKED.replace("hop", "hopp"));
+    let ran = place.0.join("ran");
+    let program = place.file("touch", format!("touch '{}'\n", ran.display()));
+    let command = format!("sh {program}");
+    let run = Command::new(TEXT)
+        .args(["--drill", &command, &file])
+        .output()
+        .unwrap();
+    let (status, said, complained) = output(&run);
+    assert_eq!((status, &said[..]), (Some(2), ""));
+    assert!(
+        complained.contains(", line 3: 'hopp' stands where could stand: hop or ttl\n"),
+        "{complained}"
+    );
+    assert!(!ran.exists());
+}
+
+#[test]
+fn bytes_and_text_are_turned_into_each_other() {
+    let place = Place::new("turned");
+    let file = place.file("a.drill", WORKED);
+    let bytes = place.run("", &["--bytes", &file]).stdout;
+    assert_eq!(bytes[..4], [0x11, 0, 0x20, 0]);
+    let file = place.file("b.drill", &bytes);
+    assert_eq!(place.run("", &["--bytes", &file]).stdout, bytes);
+    let (_, text, _) = output(&place.run("", &["--text", &file]));
+    assert!(
+        text.ends_with("hop 1 sequence 7 idle idle\nway 02-00-00-00-00-02\n"),
+        "{text}"
+    );
+    let file = place.file("c.drill", &text);
+    assert_eq!(place.run("", &["--bytes", &file]).stdout, bytes);
+    assert_eq!(output(&place.run(LINES, &[&file])).1, LINES);
+}
+
+#[test]
+fn all_wants_every_line() {
+    let place = Place::new("all");
+    let good = place.file("a.drill", format!("# shows\n{WORKED}"));
+    assert_eq!(
+        output(&place.run(LINES, &["--all", &good, &good])).0,
+        Some(0)
+    );
+    let less = place.file(
+        "b.drill",
+        format!("# shows\n{}", WORKED.replace("=> 2 way 0", "")),
+    );
+    let unsaid = place.file("c.drill", WORKED);
+    let bytes = place.file("d.drill", [2, 0, 1, 0]);
+    let cases = [
+        (&less, "1 lines are printed"),
+        (&unsaid, "in its first line"),
+        (&bytes, "is no text"),
+    ];
+    for (file, words) in cases {
+        let (status, said, _) = output(&place.run(LINES, &["--all", &good, file]));
+        assert_eq!(status, Some(1));
+        assert!(
+            said.contains(words) && said.ends_with("drills: 1 as expected, 1 not\n"),
+            "{said}"
+        );
+    }
+}
+
+#[test]
+fn what_cannot_be_used_is_2() {
+    let place = Place::new("cannot");
+    let file = place.file("a.drill", WORKED);
+    let runs: [&[&str]; 7] = [
+        &["no/such/file"],
+        &[],
+        &["--what", &file],
+        &["--say", "--text", &file],
+        &["--picture"],
+        &[&file, &file],
+        &["--drill", "no/such/program", &file],
+    ];
+    for arguments in runs {
+        let (status, said, complained) = output(&place.run(LINES, arguments));
+        assert_eq!((status, &said[..]), (Some(2), ""), "{arguments:?}");
+        assert!(complained.starts_with("drill: "), "{complained}");
+    }
+    assert_eq!(output(&place.run(LINES, &["--help"])).0, Some(0));
+}
