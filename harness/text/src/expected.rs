@@ -96,10 +96,17 @@ fn rest(words: &mut Words) -> Result<String, Slip> {
     if words.peek().is_none() && [2, 4].contains(&result) {
         return Ok(result.to_string());
     }
-    let (west, east) = (words.byte()?, words.byte()?);
-    let sequence = words.byte()?;
-    let (stations, reports) = (words.two_bytes()?, words.two_bytes()?);
+    let (west, east) = (field(words, "west request")?, field(words, "east request")?);
+    let sequence = field(words, "own sequence")?;
+    let (stations, reports) = (field(words, "stations")?, field(words, "reports written")?);
     Ok(format!(
         "{result} {west} {east} {sequence} {stations} {reports}"
     ))
+}
+
+/// A field by its name.
+fn field(words: &mut Words, name: &str) -> Result<u16, Slip> {
+    words.value(decimal, || {
+        format!("the number of the line's field '{name}'")
+    })
 }

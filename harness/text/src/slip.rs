@@ -34,7 +34,11 @@ impl fmt::Display for Mistake {
             "" => "the line ends".to_string(),
             word => format!("'{}' stands", shown(word, SHOWN)),
         };
-        writeln!(f, "line {}: {what} where could stand: {could}", self.line)?;
+        writeln!(
+            f,
+            "line {}: {what} where this could stand: {could}",
+            self.line
+        )?;
         let before = tail(self.source.get(..*at).unwrap_or(""));
         let from = shown(self.source.get(*at..).unwrap_or(""), SHOWN);
         writeln!(f, "    {before}{from}")?;

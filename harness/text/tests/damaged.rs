@@ -143,7 +143,7 @@ fn damaged_texts_are_told_with_their_line() {
             errors.starts_with("drill: ") && errors.contains(&told),
             "{told}\n{errors}\n{text}"
         );
-        assert!(errors.contains(" where could stand: "), "{errors}");
+        assert!(errors.contains(" where this could stand: "), "{errors}");
     }
 }
 
@@ -174,7 +174,7 @@ fn shaken_texts_are_read_or_told_and_never_a_panic() {
                 refused += 1;
                 assert!(mistakes
                     .iter()
-                    .all(|mistake| mistake.to_string().contains(" where could stand: ")));
+                    .all(|mistake| mistake.to_string().contains(" where this could stand: ")));
             }
         }
     }

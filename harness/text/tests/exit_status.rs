@@ -95,7 +95,7 @@ fn a_mistake_is_2_and_nothing_is_run() {
     let (status, said, complained) = output(&run);
     assert_eq!((status, &said[..]), (Some(2), ""));
     assert!(
-        complained.contains(", line 3: 'hopp' stands where could stand: hop or ttl\n"),
+        complained.contains(", line 3: 'hopp' stands where this could stand: hop or ttl\n"),
         "{complained}"
     );
     assert!(!ran.exists());
