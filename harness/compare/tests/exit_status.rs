@@ -86,6 +86,44 @@ fn a_difference_is_1_and_the_short_drill_still_differs() {
     let speak = |fault: &str| said(&place.run(&["--as", fault, drill.to_str().unwrap()]));
     assert_ne!(speak("nothing"), speak("gaps-allowed"));
     assert!(speak("nothing").lines().count() < 10);
+    let kept = fs::read_to_string(&drill).unwrap();
+    assert!(
+        kept.starts_with("settings ") && kept.contains("  => 1 "),
+        "{kept}"
+    );
+    assert!(text.ends_with(&kept), "the text is shown");
+}
+
+#[test]
+fn accepted_lines_stand_in_the_text() {
+    let place = Place::new("accept");
+    let file = place.0.join("a.drill");
+    let source = "# shows\nsettings address 02-00-00-00-00-01\nlink west failed\ntick 3 # why\n";
+    fs::write(&file, source).unwrap();
+    let accept = || place.run(&["--accept", file.to_str().unwrap()]);
+    assert_eq!(accept().status.code(), Some(0));
+    let wanted = "\
+# shows
+settings address 02-00-00-00-00-01
+link west failed  => 1 0 4 0 1 0 1
+tick 2            => 2..3 0 4 0 1 0 0  # why
+tick              => 4 0 4 4 2 0 1
+";
+    assert_eq!(fs::read_to_string(&file).unwrap(), wanted);
+    assert_eq!(said(&accept()), "", "once more changes nothing");
+    let by_hand = wanted.replace("=> 1 0 4 0 1 0 1", "=> 1 0 3 0 1 0 1  # by hand");
+    fs::write(&file, &by_hand).unwrap();
+    let output = accept();
+    assert_eq!(output.status.code(), Some(1));
+    assert!(
+        said(&output).contains("line 3: by hand '1 0 3 0 1 0 1', the model says '1 0 4 0 1 0 1'")
+    );
+    assert_eq!(fs::read_to_string(&file).unwrap(), by_hand);
+    for content in [&b"tock\n"[..], &[2, 0, 1, 0]] {
+        fs::write(&file, content).unwrap();
+        assert_eq!(accept().status.code(), Some(2));
+        assert_eq!(fs::read(&file).unwrap(), content);
+    }
 }
 
 #[test]

@@ -47,26 +47,37 @@ struct Row {
 pub fn accept(text: &Text, printed: &str) -> Accepted {
     let staged = Staged::of(text, printed);
     let results = text.lines.iter().any(|line| marked(line, RESULTS_BY_HAND));
-    let mut kept: Vec<Kept> = text
+    let reports = text
         .lines
         .iter()
-        .filter_map(|line| reports_kept(line, printed))
-        .collect();
+        .filter_map(|line| reports_kept(line, printed));
+    let mut kept: Vec<Kept> = reports.collect();
     let mut rows = Vec::new();
     for (place, line) in text.lines.iter().enumerate() {
-        let mut new = rows_of(line, staged.line(place), &text.names);
-        for row in &mut new {
-            kept.extend(keep_by_hand(line, row, results));
+        let told = staged.line(place);
+        let new = if marked(line, BY_HAND) || !staged.is_tiled(place) {
+            vec![alone(line, last(line, told))]
+        } else {
+            rows_of(line, told, &text.names)
+        };
+        match by_hand(line, &new, results) {
+            None => rows.extend(new),
+            Some(one) => {
+                kept.push(one);
+                rows.push(alone(line, line.expected.clone()));
+            }
         }
-        rows.extend(new);
     }
-    let width = rows.iter().filter(|row| row.expected.is_some());
-    let width = width
-        .map(|row| row.words.chars().count())
-        .filter(|&width| width <= WIDEST);
-    let width = width.max().unwrap_or(0);
-    let source = rows.iter().map(|row| row.text(width)).collect();
+    let source = written(&rows);
     Accepted { source, kept }
+}
+
+/// The rows as a text, with '=>' in one column.
+fn written(rows: &[Row]) -> String {
+    let wide = rows.iter().filter(|row| row.expected.is_some());
+    let widths = wide.map(|row| row.words.chars().count());
+    let width = widths.filter(|&width| width <= WIDEST).max().unwrap_or(0);
+    rows.iter().map(|row| row.text(width)).collect()
 }
 
 impl Row {
@@ -83,17 +94,30 @@ impl Row {
     }
 }
 
-/// The rows of a line: one, or as many as a run needs so that all of its lines are told.
-fn rows_of(line: &Line, told: &[Told], names: &Names) -> Vec<Row> {
-    let alone = |expected| Row {
+/// The line as it is, with what is expected of it.
+fn alone(line: &Line, expected: Option<Expected>) -> Row {
+    Row {
         words: line.words.clone(),
         expected,
         comment: line.comment.clone(),
-    };
-    let groups: Vec<Vec<&Told>> = groups(told);
+    }
+}
+
+/// What is to be expected of a line that is not parted: all of its lines if they are alike and were expected so, else the last.
+fn last(line: &Line, told: &[Told]) -> Option<Expected> {
+    let groups = groups(told);
+    match (&line.expected, &groups[..]) {
+        (Some(Expected::Each(..)), [group]) => expected(group),
+        _ => expected(&[told.iter().rev().find(|told| told.line.is_some())?]),
+    }
+}
+
+/// The rows of a line: one, or as many as a run needs so that all of its lines are told.
+fn rows_of(line: &Line, told: &[Told], names: &Names) -> Vec<Row> {
+    let groups = groups(told);
     match &groups[..] {
-        [] => vec![alone(None)],
-        [group] => vec![alone(expected(group))],
+        [] => vec![alone(line, None)],
+        [group] => vec![alone(line, expected(group))],
         _ => {
             let mut rows: Vec<Row> = groups.iter().map(|group| row(group, names)).collect();
             rows[0].comment = line.comment.clone();
@@ -178,16 +202,27 @@ fn reports_kept(line: &Line, printed: &str) -> Option<Kept> {
     })
 }
 
-/// Puts back what was worked out by hand, if it is not what was printed.
-fn keep_by_hand(line: &Line, row: &mut Row, results: bool) -> Option<Kept> {
-    let (old, new) = (line.expected.as_ref()?, row.expected.take()?);
-    let whole = marked(line, BY_HAND) && old.rest() != new.rest();
-    let differs = whole || results && result(old) != result(&new);
-    row.expected = Some(if differs { old.clone() } else { new.clone() });
-    differs.then(|| Kept {
+/// What was worked out by hand in a line, if the new rows do not say it.
+fn by_hand(line: &Line, rows: &[Row], results: bool) -> Option<Kept> {
+    let old = line.expected.as_ref()?;
+    // Behind a run with one expected line, that is the last.
+    let rows = match old {
+        Expected::Each(..) => rows,
+        _ => &rows[rows.len().saturating_sub(1)..],
+    };
+    let new = rows.iter().map(|row| row.expected.as_ref());
+    let differs = |new: &Option<&Expected>| match new {
+        None => results || marked(line, BY_HAND),
+        Some(new) => {
+            let whole = marked(line, BY_HAND) && old.rest() != new.rest();
+            whole || results && result(old) != result(new)
+        }
+    };
+    let printed = new.clone().find(differs)?;
+    Some(Kept {
         line: line.number,
         stands: old.to_string(),
-        printed: new.to_string(),
+        printed: printed.map_or("nothing".to_string(), Expected::to_string),
     })
 }
 
@@ -238,6 +273,51 @@ mod tests {
         let source = "# reports by hand: 1\nsettings short\ntick\n";
         assert_eq!(accepted(source, "1 0 0 0 0 0 1\n").1, 0);
         assert_eq!(accepted(source, "1 0 0 0 0 0 0\n").1, 1);
+    }
+
+    #[test]
+    fn a_run_worked_out_by_hand_is_not_parted() {
+        let parts = "1 0 0 0 0 0 0\n2 0 4 0 0 0 1\n";
+        let source = "settings short\ntick 2 => 1..2 0 0 0 0 0 0 # by hand\n";
+        let (text, kept) = accepted(source, parts);
+        assert!(
+            text.contains("tick 2  => 1..2 0 0 0 0 0 0  # by hand") && kept == 1,
+            "{text}"
+        );
+        let source = "settings short\ntick 2 => 2 0 4 0 0 0 1 # by hand\n";
+        let (text, kept) = accepted(source, parts);
+        assert!(
+            text.contains("tick 2  => 2 0 4 0 0 0 1  # by hand") && kept == 0,
+            "{text}"
+        );
+        let source = "# results by hand\nsettings short\ntick 2 => 1..2 3 0 0 0 0 0\n";
+        let (text, kept) = accepted(source, parts);
+        assert!(
+            text.contains("tick 2  => 1..2 3 0 0 0 0 0\n") && kept == 1,
+            "{text}"
+        );
+    }
+
+    #[test]
+    fn a_line_that_is_no_longer_printed_is_told() {
+        let source =
+            "settings short\nbytes 00 00\ntick => 2 0 0 0 0 0 0 # by hand\ntick => 3 0 0 0 0 0 0\n";
+        let (text, kept) = accepted(source, "1 2\n");
+        assert!(
+            text.ends_with("=> 2 0 0 0 0 0 0  # by hand\ntick\n") && kept == 1,
+            "{text}"
+        );
+    }
+
+    #[test]
+    fn bytes_that_stand_across_lines_stay_as_they_are() {
+        let source = "settings short\nbytes 02 00 01 00 02 00\nbytes 01 00 02 00 01 00\n";
+        let printed = "1 0 0 0 0 0 0\n2 0 0 0 0 0 1\n3 0 0 0 0 0 0\n";
+        let wanted = "settings short\nbytes 02 00 01 00 02 00  => 2 0 0 0 0 0 1\nbytes 01 00 02 00 01 00  => 3 0 0 0 0 0 0\n";
+        assert_eq!(accepted(source, printed).0, wanted);
+        let source = "settings short\nbytes 02 00 01 00 03 00 01 00 00\n";
+        let wanted = "settings short\ntick                  => 1 0 0 0 0 0 0\nbytes 03 00 01 00 00  => 2 4 0 0 0 0 0\n";
+        assert_eq!(accepted(source, "1 0 0 0 0 0 0\n2 4 0 0 0 0 0\n").0, wanted);
     }
 
     #[test]

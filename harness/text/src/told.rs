@@ -59,7 +59,9 @@ pub struct Staged {
     /// The drill as a whole.
     pub play: Play,
     /// Places in `play.told`, one range for each line of the text.
-    pub of_line: Vec<Range<usize>>,
+    of_line: Vec<Range<usize>>,
+    /// Whether the records that begin in a line are its bytes, all of them and no others.
+    tiled: Vec<bool>,
 }
 
 impl Staged {
@@ -76,6 +78,7 @@ impl Staged {
             });
         }
         let mut of_line = Vec::new();
+        let mut tiled = Vec::new();
         let mut next = 0;
         for (line, place) in text.lines.iter().zip(places) {
             let first = next;
@@ -84,9 +87,22 @@ impl Staged {
             while line.run.is_some() && play.told.get(next).is_some_and(begins_here) {
                 next += 1;
             }
+            let told = &play.told[first..next];
+            let length: usize = told.iter().map(|told| told.record.bytes().len()).sum();
+            let start = told.first().map_or(place.start, |told| told.start);
+            tiled.push(start == place.start && length == place.len());
             of_line.push(first..next);
         }
-        Staged { play, of_line }
+        Staged {
+            play,
+            of_line,
+            tiled,
+        }
+    }
+
+    /// Whether the records that begin in a line of the text are its bytes, all of them and no others.
+    pub fn is_tiled(&self, place: usize) -> bool {
+        self.tiled.get(place).copied().unwrap_or(false)
     }
 
     /// The records of a line of the text.
