@@ -1,41 +1,37 @@
 //! The program as a whole: its exit status, what it leaves behind, and the drill it keeps.
 //! It plays the other program itself, right or with a fault, so no proved program is needed.
 
-use std::env;
 use std::fs;
-use std::path::{Path, PathBuf};
+use std::path::Path;
 use std::process::{Command, Output};
+
+use text::program::Room;
 
 const COMPARE: &str = env!("CARGO_BIN_EXE_compare");
 
 /// A directory of one test, removed at its end.
-struct Place(PathBuf);
+struct Place(Room);
 
 impl Place {
     fn new(test: &str) -> Place {
-        let name = format!("compare-test-{test}-{}", std::process::id());
-        let place = env::temp_dir().join(name);
-        fs::create_dir_all(&place).unwrap();
-        Place(place)
+        Place(Room::new(&format!("compare-test-{test}")).unwrap())
+    }
+
+    fn path(&self) -> &Path {
+        self.0.path()
     }
 
     fn is_empty(&self) -> bool {
-        fs::read_dir(&self.0).unwrap().next().is_none()
+        fs::read_dir(self.path()).unwrap().next().is_none()
     }
 
     fn run(&self, arguments: &[&str]) -> Output {
         Command::new(COMPARE)
             .args(arguments)
-            .env("TMPDIR", &self.0)
-            .current_dir(&self.0)
+            .env("TMPDIR", self.path())
+            .current_dir(self.path())
             .output()
             .unwrap()
-    }
-}
-
-impl Drop for Place {
-    fn drop(&mut self) {
-        let _ = fs::remove_dir_all(&self.0);
     }
 }
 
@@ -80,7 +76,7 @@ fn a_difference_is_1_and_the_short_drill_still_differs() {
     assert_eq!(output.status.code(), Some(1), "{}", complained(&output));
     let text = said(&output);
     assert!(text.contains("differs in line"), "{text}");
-    let files: Vec<_> = fs::read_dir(place.0.join("kept")).unwrap().collect();
+    let files: Vec<_> = fs::read_dir(place.path().join("kept")).unwrap().collect();
     assert_eq!(files.len(), 1);
     let drill = files[0].as_ref().unwrap().path();
     let speak = |fault: &str| said(&place.run(&["--as", fault, drill.to_str().unwrap()]));
@@ -97,7 +93,7 @@ fn a_difference_is_1_and_the_short_drill_still_differs() {
 #[test]
 fn accepted_lines_stand_in_the_text() {
     let place = Place::new("accept");
-    let file = place.0.join("a.drill");
+    let file = place.path().join("a.drill");
     let source = "# shows\nsettings address 02-00-00-00-00-01\nlink west failed\ntick 3 # why\n";
     fs::write(&file, source).unwrap();
     let accept = || place.run(&["--accept", file.to_str().unwrap()]);
@@ -169,7 +165,7 @@ fn without_a_command_the_repository_is_searched() {
     let place = Place::new("search");
     // A temporary directory may lie below a repository; only then is there a command.
     let above = place
-        .0
+        .path()
         .ancestors()
         .any(|top| top.join("drills/run").is_file());
     if !above {
@@ -177,8 +173,8 @@ fn without_a_command_the_repository_is_searched() {
         assert_eq!(output.status.code(), Some(2));
         assert!(complained(&output).contains("name a command with --drill"));
     }
-    write_script(&place.0);
-    let deep = place.0.join("a/b");
+    write_script(place.path());
+    let deep = place.path().join("a/b");
     fs::create_dir_all(&deep).unwrap();
     let output = Command::new(COMPARE)
         .args(["--count", "2"])

@@ -162,6 +162,11 @@ impl Room {
         })
     }
 
+    /// Where it is.
+    pub fn path(&self) -> &Path {
+        &self.directory
+    }
+
     /// The desk of a job.
     pub fn desk(&self, job: usize) -> Result<Desk, String> {
         let directory = self.directory.join(format!("job-{job}"));

@@ -11,10 +11,7 @@ pub const LONGEST_BLOCK: usize = LONGEST - 9;
 /// A record of this kind and body.
 pub fn record(kind: u16, body: &[u8]) -> Bytes {
     let length = u16::try_from(body.len() + 2).unwrap_or(u16::MAX);
-    let mut bytes = length.to_le_bytes().to_vec();
-    bytes.extend(kind.to_le_bytes());
-    bytes.extend(body);
-    bytes
+    [&length.to_le_bytes(), &kind.to_le_bytes(), body].concat()
 }
 
 /// The six bytes of an address.
@@ -67,11 +64,19 @@ pub struct Report {
 
 /// Kind 5.
 pub fn report(report: &Report) -> Bytes {
-    let mut body = vec![report.span, report.ringlet, report.ttl];
-    body.extend(wire(report.address));
-    body.push(report.sequence);
-    body.extend(report.requests);
-    record(5, &body)
+    let [a, b, c, d, e, f] = wire(report.address);
+    let [west, east] = report.requests;
+    let Report {
+        span,
+        ringlet,
+        ttl,
+        sequence,
+        ..
+    } = *report;
+    record(
+        5,
+        &[span, ringlet, ttl, a, b, c, d, e, f, sequence, west, east],
+    )
 }
 
 /// Kind 6.

@@ -4,6 +4,9 @@ use crate::codes;
 use crate::hex;
 use crate::slip::Slip;
 
+/// Most lines have no more words.
+const USUAL: usize = 12;
+
 /// Words still to be taken.
 #[derive(Clone, Debug)]
 pub struct Words<'t> {
@@ -17,7 +20,7 @@ pub struct Words<'t> {
 impl<'t> Words<'t> {
     /// The words of a part of a line that begins behind so many bytes of it.
     pub fn of(part: &'t str, begins: usize) -> Words<'t> {
-        let mut words = Vec::new();
+        let mut words = Vec::with_capacity(USUAL);
         let mut end = begins;
         for word in part.split([' ', '\t']) {
             if !word.is_empty() {

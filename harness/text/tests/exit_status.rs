@@ -1,9 +1,9 @@
 //! The program as a whole: what it prints and its exit status, with a program in the drill's place that says fixed lines.
 
-use std::env;
 use std::fs;
-use std::path::PathBuf;
 use std::process::{Command, Output};
+
+use text::program::Room;
 
 const TEXT: &str = env!("CARGO_BIN_EXE_text");
 
@@ -16,17 +16,15 @@ way B                                                => 2 way 0
 const LINES: &str = "1 0 0 0 0 1 0\n2 way 0\n";
 
 /// A directory of one test, removed at its end.
-struct Place(PathBuf);
+struct Place(Room);
 
 impl Place {
     fn new(test: &str) -> Place {
-        let place = env::temp_dir().join(format!("text-test-{test}-{}", std::process::id()));
-        fs::create_dir_all(&place).unwrap();
-        Place(place)
+        Place(Room::new(&format!("text-test-{test}")).unwrap())
     }
 
     fn file(&self, name: &str, content: impl AsRef<[u8]>) -> String {
-        let path = self.0.join(name);
+        let path = self.0.path().join(name);
         fs::write(&path, content).unwrap();
         path.display().to_string()
     }
@@ -39,15 +37,9 @@ impl Place {
         Command::new(TEXT)
             .args(["--drill", &command])
             .args(arguments)
-            .current_dir(&self.0)
+            .current_dir(self.0.path())
             .output()
             .unwrap()
-    }
-}
-
-impl Drop for Place {
-    fn drop(&mut self) {
-        let _ = fs::remove_dir_all(&self.0);
     }
 }
 
@@ -85,7 +77,7 @@ fn a_difference_is_1_and_stands_side_by_side() {
 fn a_mistake_is_2_and_nothing_is_run() {
     let place = Place::new("mistake");
     let file = place.file("a.drill", WORKED.replace("hop", "hopp"));
-    let ran = place.0.join("ran");
+    let ran = place.0.path().join("ran");
     let program = place.file("touch", format!("touch '{}'\n", ran.display()));
     let command = format!("sh {program}");
     let run = Command::new(TEXT)
