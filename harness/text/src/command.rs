@@ -1,13 +1,17 @@
 //! The command line of `./drill`, and what each command does.
 
+use std::fs;
 use std::io::{ErrorKind, Write};
+use std::path::Path;
 use std::sync::atomic::{AtomicUsize, Ordering};
 use std::thread;
 
 use crate::checking::{differences, unchecked, Table};
-use crate::program::{Desk, Program, Room, TIME_LIMIT};
+use crate::picture::{draw, note, Sheet};
+use crate::program::{cannot, Desk, Program, Room, TIME_LIMIT};
 use crate::saying::say;
 use crate::source::Source;
+use crate::stations::without_operators;
 use crate::told::{play, Staged};
 use crate::writing;
 
@@ -125,12 +129,39 @@ fn task(options: &Options, output: &mut dyn Write, errors: &mut dyn Write) -> Re
             write(output, said.as_bytes())?;
             compare(&source, &printed, errors)
         }
+        Task::Picture(out) => picture(options, &source, out, errors),
         _ => {
             let printed = printed(options, &source.bytes())?;
             write(output, printed.as_bytes())?;
             compare(&source, &printed, errors)
         }
     }
+}
+
+/// Draws the drill. The program runs once more without operators' requests if there are any.
+fn picture(
+    options: &Options,
+    source: &Source,
+    out: &str,
+    errors: &mut dyn Write,
+) -> Result<u8, String> {
+    let bytes = source.bytes();
+    let lines = printed(options, &bytes)?;
+    let played = play(&bytes, &lines);
+    let quiet = match without_operators(&played) {
+        same if same == bytes => played.clone(),
+        quiet => play(&quiet, &printed(options, &quiet)?),
+    };
+    let file = Path::new(&options.files[0]).file_name();
+    let drawn = draw(&Sheet {
+        name: &file.unwrap_or_default().to_string_lossy(),
+        note: note(source).as_deref(),
+        names: &source.names(),
+        play: &played,
+        quiet: &quiet,
+    })?;
+    fs::write(out, drawn).map_err(|error| cannot("write", Path::new(out), &error))?;
+    compare(source, &lines, errors)
 }
 
 /// Holds what was printed against the text, and shows what differs.

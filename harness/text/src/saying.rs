@@ -76,7 +76,7 @@ fn answered(answer: &Answer, record: &Record) -> (String, String) {
 }
 
 /// The settings as times, so that nobody has to multiply.
-fn times(settings: &Settings) -> String {
+pub(crate) fn times(settings: &Settings) -> String {
     let Settings {
         level,
         wtr,
