@@ -32,7 +32,7 @@ fn sizes(rows: usize) -> (f64, f64) {
     match rows {
         0..=24 => (14.0, SIZE),
         25..=40 => (11.0, 8.0),
-        _ => (9.4, 7.0),
+        _ => (8.8, 7.0),
     }
 }
 
@@ -70,7 +70,7 @@ pub fn draw(chart: &Chart, strip: &Range<usize>, pen: &mut Pen, y: f64) -> f64 {
 /// The bar of one stay.
 fn bar(chart: &Chart, strip: &Range<usize>, pen: &mut Pen, stay: &Stay, row: (f64, f64, f64)) {
     let (top, height, size) = row;
-    let (top, height) = (top + 0.7, height - 1.4);
+    let (top, height) = (top + 0.5, height - 1.0);
     let bottom = top + height;
     for (columns, hops) in chart.layout.hops(stay) {
         if let Some(part) = chart.layout.part_of(strip, &columns) {
@@ -117,4 +117,20 @@ fn piece(pen: &mut Pen, part: Part, hops: [u8; 2], row: (f64, f64, f64)) {
         pen.words("hops", Anchor::Start, (part.from + 2.0, baseline), &words);
         pen.element("</g>");
     }
+}
+
+/// A bar for the legend.
+pub fn sample(pen: &mut Pen, across: (f64, f64), top: f64) {
+    let part = Part {
+        from: across.0,
+        to: across.1,
+        begins: true,
+        ends: true,
+    };
+    pen.element(&format!(r#"<g font-size="{SIZE}">"#));
+    piece(pen, part, [1, 3], (top, 13.0, SIZE));
+    for x in [part.from + 0.7, part.to - 0.7] {
+        pen.line("edge", (x, top), (x, top + 13.0));
+    }
+    pen.element("</g>");
 }

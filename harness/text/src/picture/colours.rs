@@ -1,4 +1,4 @@
-//! The colours of the requests. They are told apart by colour-blind readers (Okabe and Ito's), and each is a different grey on paper.
+//! The colours of the requests. They are told apart by colour-blind readers (Okabe and Ito's, the blue darkened), and each is a different grey on paper.
 
 use crate::codes::request;
 
@@ -22,7 +22,7 @@ text{font-family:sans-serif;fill:#111}
 .way2{fill:#111}.way3{fill:#fff;stroke:#777;stroke-width:1;stroke-dasharray:2 2}
 .grid{stroke:#ddd;stroke-width:.6}.axis{stroke:#555;stroke-width:.8;fill:none}.alive{stroke:#555;stroke-width:.7;fill:none}
 .bar{fill:#e9e9e9}.heard{fill:#222}.edge{stroke:#222;stroke-width:1.4}.cut{stroke:#222;stroke-width:.6}.end{stroke:#111;stroke-width:2.4}
-.request{stroke:#333;stroke-width:.8}.idle{fill:#fff}.wtr{fill:#56b4e9}.ms{fill:#0072b2}.sd{fill:#f0e442}.sf{fill:#d55e00}.fs{fill:#000}";
+.request{stroke:#333;stroke-width:.8}.idle{fill:#fff}.wtr{fill:#56b4e9}.ms{fill:#00507d}.sd{fill:#f0e442}.sf{fill:#d55e00}.fs{fill:#000}";
 
 /// The class of a request's area.
 pub fn class(code: u8) -> String {

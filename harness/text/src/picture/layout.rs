@@ -21,6 +21,8 @@ pub const CODE: f64 = 12.0;
 /// The width of a line of columns; the last and the first column may have to give a code some room.
 const LINE: f64 = PAGE - LEFT - MARGIN - 2.0 * CODE;
 
+/// How much of a strip has to be filled.
+const FULL_ENOUGH: f64 = 0.75;
 /// How much a short drill may be stretched.
 const MOST_STRETCHED: f64 = 2.4;
 
@@ -149,12 +151,9 @@ impl Layout {
 
     /// The columns of a strip with their left edges.
     pub fn columns(&self, strip: &Range<usize>) -> impl Iterator<Item = (f64, &Cell)> {
-        let cells = self.cells.iter().zip(&self.edges).enumerate();
-        let strip = strip.clone();
-        cells
-            .skip(strip.start)
-            .take(strip.len())
-            .map(|(_, (cell, &edge))| (edge, cell))
+        let cells = self.cells.get(strip.clone()).unwrap_or_default();
+        let edges = self.edges.get(strip.clone()).unwrap_or_default();
+        edges.iter().copied().zip(cells)
     }
 
     /// Columns of a strip in which the request on a span is the same.
@@ -241,19 +240,30 @@ impl Layout {
 fn filled(cells: &[Cell], width: f64) -> Vec<Range<usize>> {
     let mut strips = Vec::new();
     let mut start = 0;
-    let mut filled = 0.0;
-    for (place, cell) in cells.iter().enumerate() {
-        if filled + cell.width > width && place > start {
-            strips.push(start..place);
-            start = place;
-            filled = 0.0;
-        }
-        filled += cell.width;
-    }
-    if start < cells.len() {
-        strips.push(start..cells.len());
+    while start < cells.len() {
+        let end = end(cells, start, width);
+        strips.push(start..end);
+        start = end;
     }
     strips
+}
+
+/// The end of a strip: behind a run of time, if that does not leave too much of it empty; records that belong together stay so.
+fn end(cells: &[Cell], start: usize, width: f64) -> usize {
+    let mut filled = 0.0;
+    let mut behind_run = None;
+    let mut was_time = false;
+    for (place, cell) in cells.iter().enumerate().skip(start) {
+        if was_time && cell.run.is_none() && filled >= FULL_ENOUGH * width {
+            behind_run = Some(place);
+        }
+        filled += cell.width;
+        if filled > width && place > start {
+            return behind_run.unwrap_or(place);
+        }
+        was_time = cell.run.is_some();
+    }
+    cells.len()
 }
 
 /// The steps at which the table changes.

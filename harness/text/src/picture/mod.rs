@@ -7,6 +7,7 @@ mod cells;
 mod colours;
 mod labels;
 mod layout;
+mod legend;
 mod letters;
 mod page;
 mod steps;
@@ -82,7 +83,7 @@ pub fn draw(sheet: &Sheet) -> Result<String, String> {
     for strip in &chart.layout.strips {
         y += chart.strip(strip, &mut pen, y) + GAP;
     }
-    y += page::legend(chart.layout.tick, &mut pen, y);
+    y += legend::draw(chart.layout.tick, &mut pen, y);
     let told = format!("{}; {} records", page::settings(sheet), chart.steps.len());
     Ok(whole(sheet, &told, pen, y))
 }
