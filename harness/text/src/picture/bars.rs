@@ -54,8 +54,8 @@ pub fn draw(chart: &Chart, strip: &Range<usize>, pen: &mut Pen, y: f64) -> f64 {
     pen.element(&format!(r#"<g font-size="{size}">"#));
     for row in &rows {
         if let Some(stay) = row.first() {
-            let name = fit(&chart.tags.whole(stay.address), size, LEFT - MARGIN - 8.0);
-            let at = (LEFT - 6.0, top + height / 2.0 + size * 0.36);
+            let name = fit(&chart.tags.whole(stay.address), size, LEFT - MARGIN - 9.0);
+            let at = (LEFT - 8.0, top + height / 2.0 + size * 0.36);
             pen.words("station", Anchor::End, at, &name);
         }
         for stay in *row {

@@ -18,8 +18,10 @@ const BREAKABLE: f64 = 40.0;
 const WIDEST_TICK: f64 = 6.0;
 /// How much of a line the longest run of ticks may take.
 const LONGEST_RUN: f64 = 0.55;
-/// How many lines all ticks together may take.
+/// How many lines all ticks together may take, at least.
 const LINES: f64 = 4.0;
+/// How much of the length of all records they may take, if that is more.
+const SHARE: f64 = 0.7;
 
 /// A column.
 #[derive(Clone, Debug)]
@@ -45,9 +47,10 @@ pub fn scale(steps: &[Step], line: f64) -> f64 {
     let (longest, all) = ticks.fold((1, 1), |(longest, all), ticks| {
         (ticks.max(longest), all + ticks)
     });
+    let records = steps.iter().filter(|step| !step.is_time()).count();
+    let room = (LINES * line).max(SHARE * COLUMN * as_length(records));
     let fitting = LONGEST_RUN * line / as_length(longest);
-    let short = LINES * line / as_length(all);
-    WIDEST_TICK.min(fitting).min(short)
+    WIDEST_TICK.min(fitting).min(room / as_length(all))
 }
 
 /// Numbers of records are far below those that a float cannot hold.

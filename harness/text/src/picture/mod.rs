@@ -145,7 +145,7 @@ impl Chart<'_> {
 
     /// The name of a row, at the left.
     fn name(&self, pen: &mut Pen, name: &str, y: f64) {
-        pen.words("row", Anchor::End, (LEFT - 6.0, y), name);
+        pen.words("row", Anchor::End, (LEFT - 8.0, y), name);
     }
 
     /// Every step of a strip, with its place on the timeline and its column.

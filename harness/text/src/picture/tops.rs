@@ -135,19 +135,16 @@ fn said(here: u64, all: u64) -> String {
     }
 }
 
-/// The number of ticks over a run, along it or upwards, if there is room for it.
+/// The number of ticks over a run: along it, or upwards as a record's words are, if there is room for it.
 fn ticks_of(pen: &mut Pen, part: Part, words: &str, y: f64) {
     let middle = (part.from + part.to) / 2.0;
     if width(words, WORDS) + 4.0 <= part.width() {
         pen.words("word", Anchor::Middle, (middle, y - 4.0), words);
+        let (from, to) = (short(part.from + 1.0), short(part.to - 1.0));
+        pen.path("axis", &format!("M{from} {}v-3H{to}v3", short(y + 2.0)));
     } else if part.width() >= READABLE {
         pen.upwards("word", Anchor::Start, (middle + 3.0, y - 2.0), words);
-    } else {
-        return;
     }
-    let (from, to) = (part.from + 1.0, part.to - 1.0);
-    let path = format!("M{from:.1} {}v-3H{to:.1}v3", short(y + 2.0));
-    pen.path("axis", &path);
 }
 
 /// The axis; keepalives of the west span stand above it, those of the east span below.
