@@ -129,7 +129,7 @@ fn task(options: &Options, output: &mut dyn Write, errors: &mut dyn Write) -> Re
             write(output, said.as_bytes())?;
             compare(&source, &printed, errors)
         }
-        Task::Picture(out) => picture(options, &source, out, errors),
+        Task::Picture(out) => picture(options, (name, &source), out, errors),
         _ => {
             let printed = printed(options, &source.bytes())?;
             write(output, printed.as_bytes())?;
@@ -141,7 +141,7 @@ fn task(options: &Options, output: &mut dyn Write, errors: &mut dyn Write) -> Re
 /// Draws the drill. The program runs once more without operators' requests if there are any.
 fn picture(
     options: &Options,
-    source: &Source,
+    (name, source): (&str, &Source),
     out: &str,
     errors: &mut dyn Write,
 ) -> Result<u8, String> {
@@ -152,7 +152,7 @@ fn picture(
         same if same == bytes => played.clone(),
         quiet => play(&quiet, &printed(options, &quiet)?),
     };
-    let file = Path::new(&options.files[0]).file_name();
+    let file = Path::new(name).file_name();
     let drawn = draw(&Sheet {
         name: &file.unwrap_or_default().to_string_lossy(),
         note: note(source).as_deref(),

@@ -58,7 +58,7 @@ pub fn follow(play: &Play, quiet: &Play) -> Result<Vec<Stay>, String> {
         }
         if table.stations.len() != usize::from(full.stations) {
             return Err(format!(
-                "at line {place} {} stations are printed where {} were followed: no picture of this can be trusted",
+                "line {place}: {} stations are printed where {} were followed; a picture would be wrong, and is not drawn",
                 full.stations,
                 table.stations.len()
             ));

@@ -27,12 +27,41 @@ pub fn room(hops: [u8; 2]) -> f64 {
     width(&words(hops), SIZE) + 5.0
 }
 
-/// The height of a row and the size of its letters, for so many rows in a strip: a full ring fits on a page.
-fn sizes(rows: usize) -> (f64, f64) {
-    match rows {
-        0..=24 => (14.0, SIZE),
-        25..=40 => (11.0, 8.0),
-        _ => (8.8, 7.0),
+/// Where a row stands.
+#[derive(Clone, Copy)]
+struct Row {
+    top: f64,
+    height: f64,
+    /// The size of its letters.
+    size: f64,
+}
+
+impl Row {
+    /// The first of so many rows in a strip: a full ring has to fit on a page.
+    fn first(top: f64, rows: usize) -> Row {
+        let (height, size) = match rows {
+            0..=24 => (14.0, SIZE),
+            25..=40 => (11.0, 8.0),
+            _ => (8.8, 7.0),
+        };
+        Row { top, height, size }
+    }
+
+    /// The row without what parts it from its neighbours.
+    fn inner(self) -> Row {
+        Row {
+            top: self.top + 0.5,
+            height: self.height - 1.0,
+            ..self
+        }
+    }
+
+    fn bottom(self) -> f64 {
+        self.top + self.height
+    }
+
+    fn baseline(self) -> f64 {
+        self.top + self.height / 2.0 + self.size * 0.36
     }
 }
 
@@ -49,32 +78,29 @@ pub fn draw(chart: &Chart, strip: &Range<usize>, pen: &mut Pen, y: f64) -> f64 {
     let rows: Vec<&[&Stay]> = there
         .chunk_by(|one, other| one.address == other.address)
         .collect();
-    let (height, size) = sizes(rows.len());
-    let mut top = y;
-    pen.element(&format!(r#"<g font-size="{size}">"#));
-    for row in &rows {
-        if let Some(stay) = row.first() {
-            let name = fit(&chart.tags.whole(stay.address), size, LEFT - MARGIN - 9.0);
-            let at = (LEFT - 8.0, top + height / 2.0 + size * 0.36);
-            pen.words("station", Anchor::End, at, &name);
+    let mut row = Row::first(y, rows.len());
+    pen.element(&format!(r#"<g font-size="{}">"#, row.size));
+    for stays in &rows {
+        if let Some(stay) = stays.first() {
+            let name = chart.tags.whole(stay.address);
+            let name = fit(&name, row.size, LEFT - MARGIN - 9.0);
+            pen.words("station", Anchor::End, (LEFT - 8.0, row.baseline()), &name);
         }
-        for stay in *row {
-            bar(chart, strip, pen, stay, (top, height, size));
+        for stay in *stays {
+            bar(chart, strip, pen, stay, row.inner());
         }
-        top += height;
+        row.top = row.bottom();
     }
     pen.element("</g>");
-    top - y
+    row.top - y
 }
 
 /// The bar of one stay.
-fn bar(chart: &Chart, strip: &Range<usize>, pen: &mut Pen, stay: &Stay, row: (f64, f64, f64)) {
-    let (top, height, size) = row;
-    let (top, height) = (top + 0.5, height - 1.0);
-    let bottom = top + height;
+fn bar(chart: &Chart, strip: &Range<usize>, pen: &mut Pen, stay: &Stay, row: Row) {
+    let (top, bottom) = (row.top, row.bottom());
     for (columns, hops) in chart.layout.hops(stay) {
         if let Some(part) = chart.layout.part_of(strip, &columns) {
-            piece(pen, part, hops, (top, height, size));
+            piece(pen, part, hops, row);
             if part.begins {
                 pen.line("cut", (part.from, top), (part.from, bottom));
             }
@@ -91,26 +117,24 @@ fn bar(chart: &Chart, strip: &Range<usize>, pen: &mut Pen, stay: &Stay, row: (f6
 }
 
 /// A part of a bar with the same hops: a dark upper edge if it is heard on ringlet 0, a dark lower edge if on ringlet 1.
-fn piece(pen: &mut Pen, part: Part, hops: [u8; 2], row: (f64, f64, f64)) {
-    let (top, height, size) = row;
+fn piece(pen: &mut Pen, part: Part, hops: [u8; 2], row: Row) {
     let area = Area {
         x: part.from,
-        y: top,
+        y: row.top,
         width: part.width(),
-        height,
+        height: row.height,
     };
     pen.area("bar", area);
     // Thin enough to leave room for the letters.
-    let thick = height / 8.0;
-    let edges = [top, top + height - thick];
+    let height = row.height / 8.0;
+    let edges = [row.top, row.bottom() - height];
     for (y, _) in edges.into_iter().zip(hops).filter(|&(_, hop)| hop > 0) {
-        let height = thick;
         pen.area("heard", Area { y, height, ..area });
     }
     let words = words(hops);
-    let baseline = top + height / 2.0 + size * 0.36;
-    let fitting = size.min((part.width() - 3.0) / width(&words, 1.0));
-    if fitting >= size {
+    let baseline = row.baseline();
+    let fitting = (part.width() - 3.0) / width(&words, 1.0);
+    if fitting >= row.size {
         pen.words("hops", Anchor::Start, (part.from + 3.0, baseline), &words);
     } else if fitting >= SMALLEST {
         pen.element(&format!(r#"<g font-size="{fitting:.1}">"#));
@@ -127,10 +151,15 @@ pub fn sample(pen: &mut Pen, across: (f64, f64), top: f64) {
         begins: true,
         ends: true,
     };
+    let row = Row {
+        top,
+        height: 13.0,
+        size: SIZE,
+    };
     pen.element(&format!(r#"<g font-size="{SIZE}">"#));
-    piece(pen, part, [1, 3], (top, 13.0, SIZE));
+    piece(pen, part, [1, 3], row);
     for x in [part.from + 0.7, part.to - 0.7] {
-        pen.line("edge", (x, top), (x, top + 13.0));
+        pen.line("edge", (x, top), (x, row.bottom()));
     }
     pen.element("</g>");
 }

@@ -57,3 +57,27 @@ fn letter(letter: char) -> f64 {
         _ => 1.0,
     }
 }
+
+#[cfg(test)]
+mod tests {
+    use super::*;
+
+    #[test]
+    fn words_fit() {
+        assert_eq!(fit("sequence", 10.0, 100.0), "sequence");
+        let short = fit("sequence", 10.0, 30.0);
+        assert!(
+            short.ends_with("..") && width(&short, 10.0) <= 30.0,
+            "{short}"
+        );
+        assert_eq!(fit("sequence", 10.0, 0.0), "..");
+        assert_eq!(lines("one two three", 10.0, 60.0), ["one two", "three"]);
+        assert!(lines(" ", 10.0, 60.0).is_empty());
+    }
+
+    #[test]
+    fn counts_have_commas() {
+        let counts = [0, 999, 1_000, 12_345_678].map(count);
+        assert_eq!(counts, ["0", "999", "1,000", "12,345,678"]);
+    }
+}

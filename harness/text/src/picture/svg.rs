@@ -138,3 +138,24 @@ pub fn escaped(words: &str) -> String {
     });
     letters.collect()
 }
+
+#[cfg(test)]
+mod tests {
+    use super::*;
+
+    #[test]
+    fn numbers_are_short() {
+        assert_eq!(
+            [3.0, 3.12, -0.01, 1120.0].map(short),
+            ["3", "3.1", "0", "1120"]
+        );
+    }
+
+    #[test]
+    fn nothing_in_words_is_taken_for_an_element() {
+        assert_eq!(
+            escaped("<a b=\"&\">\t\0\u{ffff}"),
+            "&lt;a b=&quot;&amp;&quot;&gt; \u{fffd}\u{fffd}"
+        );
+    }
+}
