@@ -5,8 +5,10 @@ use std::path::Path;
 
 use model::drill::say;
 use model::faults::RIGHT;
-use text::accepting::{accept, Kept};
+use text::accepting::accept;
+use text::marks::Kept;
 use text::program::cannot;
+use text::reading::Text;
 use text::source::Source;
 
 use crate::voice::tell;
@@ -14,21 +16,28 @@ use crate::voice::tell;
 /// Writes the model's lines into these texts; false if a line that is marked as worked out by hand is another one.
 pub fn accept_all(files: &[String]) -> Result<bool, String> {
     // All are read before one is written.
-    let sources: Result<Vec<Source>, String> =
-        files.iter().map(|name| Source::read(name)).collect();
+    let texts: Result<Vec<Text>, String> = files.iter().map(|name| text_of(name)).collect();
     let mut agreed = true;
-    for (name, source) in files.iter().zip(sources?) {
-        agreed &= accept_one(name, &source)?;
+    for (name, text) in files.iter().zip(texts?) {
+        agreed &= accept_one(name, &text)?;
     }
     Ok(agreed)
 }
 
-fn accept_one(name: &str, source: &Source) -> Result<bool, String> {
-    let Source::Text(text) = source else {
-        return Err(format!("{name} is no text"));
-    };
+fn text_of(name: &str) -> Result<Text, String> {
+    match Source::read(name)? {
+        Source::Text(text) => Ok(text),
+        Source::Bytes(_) => Err(format!("{name} is no text")),
+    }
+}
+
+fn accept_one(name: &str, text: &Text) -> Result<bool, String> {
     let said = say::<RIGHT>(&text.bytes());
     let accepted = accept(text, &String::from_utf8_lossy(&said));
+    let again = Text::read(accepted.source.as_bytes());
+    if !again.is_ok_and(|again| again.bytes() == text.bytes()) {
+        return Err(format!("{name} would be another drill; not written"));
+    }
     for kept in &accepted.kept {
         let Kept {
             line,

@@ -11,7 +11,7 @@ use std::time::{Duration, Instant};
 use model::drill::say;
 use model::faults::RIGHT;
 use text::accepting::accept;
-use text::program::{cannot, fresh_directory, Desk, Program, Room, TIME_LIMIT};
+use text::program::{cannot, fresh_directory, Desk, Program, Room};
 use text::reading::Text;
 use text::writing;
 
@@ -128,7 +128,7 @@ fn one_drill(
 ) -> Result<Result<Tally, Difference>, String> {
     let bytes = drill.bytes();
     let model = say::<RIGHT>(&bytes);
-    let mut said = program.say(&bytes, desk, Some(TIME_LIMIT))?;
+    let mut said = program.say(&bytes, desk)?;
     if let Some(ended) = said.ended {
         // A program that ends badly differs, even if it said all lines before.
         said.lines.extend(format!("({ended})").bytes());

@@ -110,6 +110,7 @@ mod tests {
 
     use text::reading::Text;
     use text::record::Record;
+    use text::source::is_bytes;
     use text::writing;
 
     use super::*;
@@ -125,9 +126,14 @@ mod tests {
         let written = writing::text(&bytes);
         let text = Text::read(written.as_bytes()).unwrap();
         assert!(text.bytes() == bytes, "seed {seed}");
-        let runs = text.lines.iter().filter_map(|line| line.run.as_ref());
-        let records: Vec<Record> = runs.flat_map(|run| run.records()).collect();
+        let records: Vec<Record> = text.records().collect();
         assert!(writing::plain(&records) == written, "seed {seed}");
+        // What a command is handed is told apart rightly, too.
+        assert!(is_bytes(&bytes), "seed {seed}");
+        assert!(
+            written.is_empty() || !is_bytes(written.as_bytes()),
+            "seed {seed}"
+        );
     }
 
     #[test]

@@ -2,16 +2,13 @@
 
 use model::drill::say;
 use model::faults::RIGHT;
-use text::program::{Desk, Program, TIME_LIMIT};
-use text::source::Source;
-
-/// The text of the worked drill.
-const WORKED: &[u8] = include_bytes!("../../../drills/worked.drill");
+use text::program::{Desk, Program};
+use text::source::{Source, WORKED};
 
 /// Fails if the program cannot be run or says nothing at all. What it says is judged later.
 pub fn probe(program: &Program, desk: &Desk) -> Result<(), String> {
     let worked = Source::of("the worked drill", WORKED.to_vec())?.bytes();
-    let said = program.say(&worked, desk, Some(TIME_LIMIT))?;
+    let said = program.say(&worked, desk)?;
     if let Some(ended) = said.ended {
         return Err(format!("the worked drill cannot be run: {ended}"));
     }

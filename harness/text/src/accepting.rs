@@ -1,19 +1,13 @@
 //! Writes lines into a text: every line printed stands behind its record then. What is marked as worked out by hand stays.
 
 use crate::expected::Expected;
+use crate::marks::{is_by_hand, reports_kept, results_by_hand, Kept};
 use crate::names::Names;
 use crate::reading::{Line, Text};
 use crate::record::Record;
-use crate::said::Said;
 use crate::told::{Staged, Told};
-use crate::writing::words;
+use crate::writing::{ticks, words};
 
-/// Behind a record: its whole line was worked out by hand.
-const BY_HAND: &str = "# by hand";
-/// On a line of its own: so were the results and replies of all lines.
-const RESULTS_BY_HAND: &str = "# results by hand";
-/// On a line of its own: so was the number of all reports sent, which stands behind it.
-const REPORTS_BY_HAND: &str = "# reports by hand: ";
 /// Words longer than this do not push '=>' to the right.
 const WIDEST: usize = 64;
 
@@ -23,17 +17,6 @@ pub struct Accepted {
     pub source: String,
     /// What is marked as worked out by hand and is not what was printed.
     pub kept: Vec<Kept>,
-}
-
-/// A line of a text that stays, though something else was printed.
-#[derive(Clone, Debug, PartialEq, Eq)]
-pub struct Kept {
-    /// The line's number, from 1.
-    pub line: usize,
-    /// What stands there.
-    pub stands: String,
-    /// What was printed.
-    pub printed: String,
 }
 
 /// One line of the new text.
@@ -46,19 +29,16 @@ struct Row {
 /// Lays the printed lines into the text.
 pub fn accept(text: &Text, printed: &str) -> Accepted {
     let staged = Staged::of(text, printed);
-    let results = text.lines.iter().any(|line| marked(line, RESULTS_BY_HAND));
-    let reports = text
-        .lines
-        .iter()
-        .filter_map(|line| reports_kept(line, printed));
-    let mut kept: Vec<Kept> = reports.collect();
+    let results = results_by_hand(text);
+    let mut kept = reports_kept(text, printed);
     let mut rows = Vec::new();
     for (place, line) in text.lines.iter().enumerate() {
         let told = staged.line(place);
-        let new = if marked(line, BY_HAND) || !staged.is_tiled(place) {
+        // What is worked out by hand is not parted, nor are bytes that are not whole records.
+        let new = if is_by_hand(line) || !staged.is_tiled(place) {
             vec![alone(line, last(line, told))]
         } else {
-            rows_of(line, told, &text.names)
+            rows_of(line, told)
         };
         match by_hand(line, &new, results) {
             None => rows.extend(new),
@@ -68,8 +48,10 @@ pub fn accept(text: &Text, printed: &str) -> Accepted {
             }
         }
     }
-    let source = written(&rows);
-    Accepted { source, kept }
+    Accepted {
+        source: written(&rows),
+        kept,
+    }
 }
 
 /// The rows as a text, with '=>' in one column.
@@ -105,124 +87,131 @@ fn alone(line: &Line, expected: Option<Expected>) -> Row {
 
 /// What is to be expected of a line that is not parted: all of its lines if they are alike and were expected so, else the last.
 fn last(line: &Line, told: &[Told]) -> Option<Expected> {
-    let groups = groups(told);
-    match (&line.expected, &groups[..]) {
-        (Some(Expected::Each(..)), [group]) => expected(group),
+    let all: Vec<&Told> = told.iter().collect();
+    let alike = all.windows(2).all(|pair| rest(pair[0]) == rest(pair[1]));
+    match &line.expected {
+        Some(Expected::Each(..)) if alike => expected(&all),
         _ => expected(&[told.iter().rev().find(|told| told.line.is_some())?]),
     }
 }
 
 /// The rows of a line: one, or as many as a run needs so that all of its lines are told.
-fn rows_of(line: &Line, told: &[Told], names: &Names) -> Vec<Row> {
-    let groups = groups(told);
-    match &groups[..] {
-        [] => vec![alone(line, None)],
-        [group] => vec![alone(line, expected(group))],
-        _ => {
-            let mut rows: Vec<Row> = groups.iter().map(|group| row(group, names)).collect();
-            rows[0].comment = line.comment.clone();
-            rows
-        }
-    }
-}
-
-/// Ticks with lines that are alike but for the number go together.
-fn groups(told: &[Told]) -> Vec<Vec<&Told>> {
-    let mut groups: Vec<Vec<&Told>> = Vec::new();
-    for one in told {
-        match groups.last_mut() {
-            Some(group) if is_alike(group[0], one) => group.push(one),
-            _ => groups.push(vec![one]),
-        }
-    }
-    groups
-}
-
-fn is_alike(one: &Told, other: &Told) -> bool {
-    let rest = |told: &Told| {
-        told.line
-            .as_deref()
-            .and_then(numbered)
-            .map(|(_, rest)| rest)
-    };
-    let ticks = one.record == Record::Tick && other.record == Record::Tick;
-    ticks && rest(one) == rest(other)
-}
-
-fn row(group: &[&Told], names: &Names) -> Row {
-    let words = match group.len() {
-        1 => words(&group[0].record, names),
-        ticks => format!("tick {ticks}"),
-    };
-    Row {
-        words,
-        expected: expected(group),
-        comment: None,
-    }
-}
-
-/// What is to be expected of records that go together.
-fn expected(group: &[&Told]) -> Option<Expected> {
-    let first = group.first()?.line.as_deref()?;
-    let last = group.last()?.line.as_deref()?;
-    if let Some(refusal) = first.strip_prefix("settings ") {
-        return Some(Expected::Settings(refusal.to_string()));
-    }
-    let (from, rest) = numbered(first)?;
-    let (to, _) = numbered(last)?;
-    Some(match group.len() {
-        1 => Expected::Last(from, rest),
-        _ => Expected::Each(from, to, rest),
-    })
-}
-
-fn numbered(line: &str) -> Option<(u64, String)> {
-    let (number, rest) = line.split_once(' ')?;
-    Some((number.parse().ok()?, rest.to_string()))
-}
-
-fn marked(line: &Line, mark: &str) -> bool {
-    line.comment
-        .as_deref()
-        .is_some_and(|comment| comment.starts_with(mark))
-}
-
-/// The number of reports that was worked out by hand, if another number was printed.
-fn reports_kept(line: &Line, printed: &str) -> Option<Kept> {
-    let stands = line.comment.as_deref()?.strip_prefix(REPORTS_BY_HAND)?;
-    let full = printed.lines().filter_map(|line| match Said::of(line)? {
-        Said::Line(_, answer) => answer.full().map(|full| u64::from(full.reports)),
-        Said::Settings(_) => None,
+fn rows_of(line: &Line, told: &[Told]) -> Vec<Row> {
+    let every = line.run.as_ref().and_then(|run| run.alive);
+    let alike = told.chunk_by(|one, next| rest(one) == rest(next));
+    let groups = alike.flat_map(|group| match every {
+        Some(every) => parts(group, every),
+        None => group
+            .chunk_by(|one, next| is_tick(one) && is_tick(next))
+            .collect(),
     });
-    let reports: u64 = full.sum();
-    (stands.trim() != reports.to_string()).then(|| Kept {
-        line: line.number,
-        stands: format!("{stands} reports"),
-        printed: format!("{reports} reports"),
+    let groups: Vec<&[Told]> = groups.collect();
+    if let [] | [_] = &groups[..] {
+        let group: Vec<&Told> = told.iter().collect();
+        return vec![alone(line, expected(&group))];
+    }
+    let rows = groups.iter().enumerate().map(|(place, group)| Row {
+        words: group_words(group, every),
+        expected: expected(&group.iter().collect::<Vec<_>>()),
+        comment: line.comment.clone().filter(|_| place == 0),
+    });
+    rows.collect()
+}
+
+fn is_tick(told: &Told) -> bool {
+    told.record == Record::Tick
+}
+
+/// What is behind the number of a record's line.
+fn rest(told: &Told) -> Option<String> {
+    let line = Expected::of(told.line.as_deref()?)?;
+    Some(line.rest().to_string())
+}
+
+/// Ticks among which keepalives come, parted so that each part can be said in one line.
+fn parts(mut group: &[Told], every: u64) -> Vec<&[Told]> {
+    let mut parts = Vec::new();
+    while !group.is_empty() {
+        let ticks = group.iter().take_while(|told| is_tick(told)).count();
+        let length = match (ticks, alive(group, every)) {
+            (0, 0) => 1,
+            (0, alive) => alive,
+            (ticks, _) => ticks,
+        };
+        let (part, behind) = group.split_at(length);
+        parts.push(part);
+        group = behind;
+    }
+    parts
+}
+
+/// How many records from the first on are `tick N keepalive every`; 0 if they do not begin so.
+fn alive(group: &[Told], every: u64) -> usize {
+    let mut length = 0;
+    loop {
+        let [west, east, behind @ ..] = &group[length..] else {
+            return length;
+        };
+        let pair = west.record == Record::Keepalive(0) && east.record == Record::Keepalive(1);
+        let ticks = behind.iter().take_while(|told| is_tick(told)).count();
+        if !pair || ticks == 0 {
+            return length;
+        }
+        length += 2 + ticks;
+        if u64::try_from(ticks) != Ok(every) {
+            return length;
+        }
+    }
+}
+
+fn group_words(group: &[Told], every: Option<u64>) -> String {
+    let count = group.iter().filter(|told| is_tick(told)).count();
+    match (group, every) {
+        // No name may be used above the line that gives it, so none is used.
+        ([one], _) => words(&one.record, &Names::default()),
+        ([first, ..], Some(every)) if !is_tick(first) => {
+            format!("{} keepalive {every}", ticks(count))
+        }
+        _ => ticks(count),
+    }
+}
+
+/// What is to be expected of records whose lines are alike.
+fn expected(group: &[&Told]) -> Option<Expected> {
+    let line = |told: Option<&&Told>| Expected::of(told?.line.as_deref()?);
+    let (first, last) = (line(group.first())?, line(group.last())?);
+    Some(match (first, last) {
+        (Expected::Last(from, rest), Expected::Last(to, _)) if from < to => {
+            Expected::Each(from, to, rest)
+        }
+        (first, _) => first,
     })
 }
 
 /// What was worked out by hand in a line, if the new rows do not say it.
 fn by_hand(line: &Line, rows: &[Row], results: bool) -> Option<Kept> {
-    let old = line.expected.as_ref()?;
+    let old = line.expected.as_ref();
     // Behind a run with one expected line, that is the last.
     let rows = match old {
-        Expected::Each(..) => rows,
+        Some(Expected::Each(..)) => rows,
         _ => &rows[rows.len().saturating_sub(1)..],
     };
-    let new = rows.iter().map(|row| row.expected.as_ref());
-    let differs = |new: &Option<&Expected>| match new {
-        None => results || marked(line, BY_HAND),
-        Some(new) => {
-            let whole = marked(line, BY_HAND) && old.rest() != new.rest();
-            whole || results && result(old) != result(new)
+    let mut new = rows.iter().map(|row| row.expected.as_ref());
+    let whole = is_by_hand(line);
+    let differs = |new: &Option<&Expected>| match (old, new) {
+        (None, None) => false,
+        (None, Some(_)) => whole,
+        (Some(_), None) => whole || results,
+        (Some(old), Some(new)) => {
+            whole && old.rest() != new.rest() || results && result(old) != result(new)
         }
     };
-    let printed = new.clone().find(differs)?;
+    let printed = new.find(differs)?;
+    let said = |line: Option<&Expected>| line.map_or("nothing".to_string(), Expected::to_string);
     Some(Kept {
         line: line.number,
-        stands: old.to_string(),
-        printed: printed.map_or("nothing".to_string(), Expected::to_string),
+        stands: said(old),
+        printed: said(printed),
     })
 }
 
@@ -241,10 +230,16 @@ fn result(expected: &Expected) -> Vec<&str> {
 mod tests {
     use super::*;
 
+    /// The text with these lines, and how many lines worked out by hand are others. It is the same drill, and once more changes nothing.
     fn accepted(source: &str, printed: &str) -> (String, usize) {
         let text = Text::read(source.as_bytes()).unwrap();
-        let accepted = accept(&text, printed);
-        (accepted.source, accepted.kept.len())
+        let new = accept(&text, printed);
+        let again = Text::read(new.source.as_bytes()).unwrap();
+        assert_eq!(again.bytes(), text.bytes(), "{}", new.source);
+        let twice = accept(&again, printed);
+        assert_eq!(twice.source, new.source);
+        assert_eq!(twice.kept.len(), new.kept.len());
+        (new.source, new.kept.len())
     }
 
     #[test]
@@ -253,11 +248,36 @@ mod tests {
         let source = "# why\nsettings short\ntick 3 # three\n";
         let wanted = "# why\nsettings short\ntick 2  => 1..2 0 0 0 0 0 0  # three\ntick    => 3 0 0 0 0 0 1\n";
         assert_eq!(accepted(source, printed), (wanted.to_string(), 0));
-        assert_eq!(
-            accepted(wanted, printed),
-            (wanted.to_string(), 0),
-            "once more changes nothing"
-        );
+    }
+
+    #[test]
+    fn ticks_with_keepalives_stay_as_long_as_they_can() {
+        let lines = |last: u64, rest: &dyn Fn(u64) -> &'static str| {
+            let lines = (1..=last).map(|number| format!("{number} {}\n", rest(number)));
+            lines.collect::<String>()
+        };
+        let source = "settings short\ntick 5 keepalive 2\n";
+        let same = lines(11, &|_| "0 0 0 0 0 0");
+        let wanted = "settings short\ntick 5 keepalive 2  => 1..11 0 0 0 0 0 0\n";
+        assert_eq!(accepted(source, &same).0, wanted);
+        // Records: W E tick tick W E tick tick W E tick; the seventh writes a report.
+        let other = lines(11, &|number| {
+            if number == 7 {
+                "0 0 0 0 0 1"
+            } else {
+                "0 0 0 0 0 0"
+            }
+        });
+        let wanted = "\
+settings short
+tick 2 keepalive 2  => 1..4 0 0 0 0 0 0
+keepalive west      => 5 0 0 0 0 0 0
+keepalive east      => 6 0 0 0 0 0 0
+tick                => 7 0 0 0 0 0 1
+tick                => 8 0 0 0 0 0 0
+tick 1 keepalive 2  => 9..11 0 0 0 0 0 0
+";
+        assert_eq!(accepted(source, &other).0, wanted);
     }
 
     #[test]
@@ -273,6 +293,13 @@ mod tests {
         let source = "# reports by hand: 1\nsettings short\ntick\n";
         assert_eq!(accepted(source, "1 0 0 0 0 0 1\n").1, 0);
         assert_eq!(accepted(source, "1 0 0 0 0 0 0\n").1, 1);
+    }
+
+    #[test]
+    fn a_mark_without_a_line_gets_none() {
+        let source = "settings short\ntick # by hand\n";
+        let (text, kept) = accepted(source, "1 0 0 0 0 0 0\n");
+        assert_eq!((&text[..], kept), ("settings short\ntick  # by hand\n", 1));
     }
 
     #[test]
@@ -318,6 +345,14 @@ mod tests {
         let source = "settings short\nbytes 02 00 01 00 03 00 01 00 00\n";
         let wanted = "settings short\ntick                  => 1 0 0 0 0 0 0\nbytes 03 00 01 00 00  => 2 4 0 0 0 0 0\n";
         assert_eq!(accepted(source, "1 0 0 0 0 0 0\n2 4 0 0 0 0 0\n").0, wanted);
+    }
+
+    #[test]
+    fn no_name_is_used_above_the_line_that_gives_it() {
+        let source =
+            "settings short\nbytes 08002800020000000002 02000100\nname B 02-00-00-00-00-02\n";
+        let (text, _) = accepted(source, "1 way 3\n2 0 0 0 0 0 0\n");
+        assert!(text.contains("way 02-00-00-00-00-02  => 1 way 3"), "{text}");
     }
 
     #[test]

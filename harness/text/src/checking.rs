@@ -11,9 +11,9 @@ use crate::writing::words;
 
 /// A line that is not the expected one.
 #[derive(Clone, Debug, PartialEq, Eq)]
-pub struct Difference {
-    /// The text's line, from 1; 0 where there is none.
-    pub line: usize,
+pub struct Mismatch {
+    /// The text's line, from 1; none behind the last.
+    pub line: Option<usize>,
     /// The record, in words.
     pub record: String,
     /// What the text expects.
@@ -26,21 +26,21 @@ pub struct Difference {
 const NOTHING: &str = "(nothing)";
 
 /// The differences between a text and what was printed, in the order of the text.
-pub fn differences(text: &Text, staged: &Staged) -> Vec<Difference> {
-    let mut differences = Vec::new();
+pub fn mismatches(text: &Text, staged: &Staged) -> Vec<Mismatch> {
+    let mut mismatches = Vec::new();
     for (place, line) in text.lines.iter().enumerate() {
         if let Some(expected) = &line.expected {
             let told = staged.line(place);
-            differences.extend(first(line.number, expected, told, &text.names));
+            mismatches.extend(first(line.number, expected, told, &text.names));
         }
     }
-    differences.extend(staged.play.beyond.iter().map(|printed| Difference {
-        line: 0,
-        record: "beyond the drill".to_string(),
+    mismatches.extend(staged.play.beyond.iter().map(|printed| Mismatch {
+        line: None,
+        record: "no record".to_string(),
         expected: NOTHING.to_string(),
         printed: printed.clone(),
     }));
-    differences
+    mismatches
 }
 
 /// Lines that were printed and that no '=>' speaks of; a line of the text that stands for several may speak of the last alone.
@@ -57,10 +57,10 @@ pub fn unchecked(text: &Text, staged: &Staged) -> usize {
 }
 
 /// The first difference in one line of the text.
-fn first(line: usize, expected: &Expected, told: &[Told], names: &Names) -> Option<Difference> {
+fn first(line: usize, expected: &Expected, told: &[Told], names: &Names) -> Option<Mismatch> {
     let shown: Vec<&Told> = told.iter().filter(|told| told.line.is_some()).collect();
-    let difference = |record: &str, expected: String, printed: &str| Difference {
-        line,
+    let mismatch = |record: &str, expected: String, printed: &str| Mismatch {
+        line: Some(line),
         record: record.to_string(),
         expected,
         printed: printed.to_string(),
@@ -69,29 +69,30 @@ fn first(line: usize, expected: &Expected, told: &[Told], names: &Names) -> Opti
         let printed = told.line.as_deref().unwrap_or(NOTHING);
         if let Some(wanted) = expected.line(place, shown.len()) {
             if wanted != printed {
-                return Some(difference(&words(&told.record, names), wanted, printed));
+                return Some(mismatch(&words(&told.record, names), wanted, printed));
             }
         }
     }
-    let record = told
-        .last()
-        .map_or(String::new(), |told| words(&told.record, names));
+    let record = match told.last() {
+        Some(told) => words(&told.record, names),
+        None => "no record begins here".to_string(),
+    };
     let count = u64::try_from(shown.len()).unwrap_or(u64::MAX);
     match expected.count() {
         Some(wanted) if wanted != count => {
             let printed = shown.last().and_then(|told| told.line.as_deref());
-            Some(difference(
+            Some(mismatch(
                 &record,
                 expected.to_string(),
                 printed.unwrap_or(NOTHING),
             ))
         }
-        None if shown.is_empty() => Some(difference(&record, expected.to_string(), NOTHING)),
+        None if shown.is_empty() => Some(mismatch(&record, expected.to_string(), NOTHING)),
         _ => None,
     }
 }
 
-impl Difference {
+impl Mismatch {
     /// The fields that differ, by name.
     fn fields(&self) -> String {
         let (wanted, printed): (Vec<_>, Vec<_>) = (
@@ -110,37 +111,38 @@ impl Difference {
     }
 }
 
-/// Differences side by side.
-pub struct Table<'d>(pub &'d [Difference]);
+/// What was expected and what was printed, side by side.
+pub struct Table<'d>(pub &'d [Mismatch]);
 
 impl fmt::Display for Table<'_> {
     fn fmt(&self, f: &mut fmt::Formatter<'_>) -> fmt::Result {
-        let wide = |column: fn(&Difference) -> &str, head: &str| {
+        let wide = |column: fn(&Mismatch) -> &str, head: &str| {
             let cells = self
                 .0
                 .iter()
-                .map(|difference| column(difference).chars().count());
+                .map(|mismatch| column(mismatch).chars().count());
             cells.max().unwrap_or(0).max(head.len())
         };
-        let expected = wide(|difference| &difference.expected, "expected");
-        let printed = wide(|difference| &difference.printed, "printed");
+        let expected = wide(|mismatch| &mismatch.expected, "expected");
+        let printed = wide(|mismatch| &mismatch.printed, "printed");
         write!(
             f,
             "line   {:expected$}   {:printed$}   record",
             "expected", "printed"
         )?;
-        for difference in self.0 {
-            let Difference {
+        for mismatch in self.0 {
+            let Mismatch {
                 line,
                 record,
                 expected: one,
                 printed: other,
-            } = difference;
+            } = mismatch;
+            let line = line.map_or("end".to_string(), |line| line.to_string());
             write!(
                 f,
                 "\n{line:>4}   {one:expected$}   {other:printed$}   {record}"
             )?;
-            match &difference.fields()[..] {
+            match &mismatch.fields()[..] {
                 "" => {}
                 fields => write!(f, " (differs in {fields})")?,
             }
@@ -155,10 +157,10 @@ mod tests {
 
     const PRINTED: &str = "1 0 0 0 0 0 0\n2 0 0 0 0 0 0\n3 0 0 0 0 0 1\n4 way 3\n";
 
-    fn check(source: &str) -> (Vec<Difference>, usize) {
+    fn check(source: &str) -> (Vec<Mismatch>, usize) {
         let text = Text::read(source.as_bytes()).unwrap();
         let staged = Staged::of(&text, PRINTED);
-        (differences(&text, &staged), unchecked(&text, &staged))
+        (mismatches(&text, &staged), unchecked(&text, &staged))
     }
 
     #[test]

@@ -3,6 +3,7 @@
 use std::fmt;
 
 use crate::hex::decimal;
+use crate::said::Said;
 use crate::slip::Slip;
 use crate::words::Words;
 
@@ -22,18 +23,24 @@ impl Expected {
     pub fn read(words: &mut Words) -> Result<Expected, Slip> {
         if words.take_if("settings") {
             let refusal = words.byte()?;
-            words.end()?;
+            end(words)?;
             return Ok(Expected::Settings(refusal.to_string()));
         }
         let could =
             || "the number of a line, the numbers of several such as 7..9, or settings".into();
         let (first, last) = words.value(numbers, could)?;
         let rest = rest(words)?;
-        words.end()?;
+        end(words)?;
         Ok(match first {
             Some(first) => Expected::Each(first, last, rest),
             None => Expected::Last(last, rest),
         })
+    }
+
+    /// A line that was printed, to be expected.
+    pub fn of(line: &str) -> Option<Expected> {
+        Said::of(line)?;
+        Expected::read(&mut Words::of(line, 0)).ok()
     }
 
     /// The line that is expected at a place of so many lines; none where it does not matter.
@@ -47,6 +54,17 @@ impl Expected {
                 let is_last = u64::try_from(lines).is_ok_and(|lines| place + 1 == lines);
                 is_last.then(|| self.to_string())
             }
+        }
+    }
+
+    /// All the lines that it names, as they are printed.
+    pub fn printed(&self) -> String {
+        match self {
+            Expected::Each(first, last, rest) => {
+                let lines = (*first..=*last).map(|number| format!("{number} {rest}\n"));
+                lines.collect()
+            }
+            one => format!("{one}\n"),
         }
     }
 
@@ -76,13 +94,21 @@ impl fmt::Display for Expected {
     }
 }
 
-/// One number, or two with dots between.
+/// Nothing may stand behind the last field, a second '=>' least of all.
+fn end(words: &Words) -> Result<(), Slip> {
+    match words.peek() {
+        None => Ok(()),
+        Some(_) => Err(words.slip("'#' or the end of the line")),
+    }
+}
+
+/// One number from 1 on, or two with dots between.
 fn numbers(word: &str) -> Option<(Option<u64>, u64)> {
     let Some((first, last)) = word.split_once("..") else {
-        return Some((None, decimal(word)?));
+        return Some((None, decimal(word).filter(|&number| number > 0)?));
     };
-    let (first, last) = (decimal(first)?, decimal(last)?);
-    (first <= last).then_some((Some(first), last))
+    let (first, last): (u64, u64) = (decimal(first)?, decimal(last)?);
+    (1 <= first && first <= last).then_some((Some(first), last))
 }
 
 /// The fields behind the number: a reply, a refusal, or six numbers.

@@ -2,17 +2,28 @@
 
 use crate::codes::{ASKED, REQUESTS, SPANS, STATUSES};
 use crate::entries::Entry;
-use crate::hex;
+use crate::hex::{self, LONGEST_RUN};
 use crate::names::{is_name, Names};
 use crate::reading::{MOST_BYTES, TOO_LONG};
 use crate::record::Record;
-use crate::records::{self, Bytes, Report, Settings, LONGEST_BLOCK};
+use crate::records::{Bytes, Report, Settings, LONGEST_BLOCK};
 use crate::run::Run;
 use crate::slip::Slip;
-use crate::words::{code, code_words, Words};
+use crate::words::{code, code_words, Words, END};
 
-/// The most ticks that one line stands for.
-const MOST_TICKS: u64 = 10_000_000;
+/// The most ticks that one line stands for: more than the longest WTR.
+pub(crate) const MOST_TICKS: usize = 2_000_000;
+/// The settings that have a word.
+const SETTINGS: &[&str] = &[
+    "address",
+    "level",
+    "wtr",
+    "hold-off",
+    "keepalive",
+    "fast",
+    "slow",
+    "forget",
+];
 /// The first words of a line.
 const FIRST: &[&str] = &[
     "name",
@@ -49,12 +60,12 @@ pub(crate) fn content(words: &mut Words, names: &mut Names) -> Result<Option<Run
 
 /// `name B 02-00-00-00-00-02`
 fn name(words: &mut Words, names: &mut Names) -> Result<(), Slip> {
-    let here = words.clone();
-    let could = || "a name: a letter, then letters, digits, '-', '_' and '.'".to_string();
+    let could =
+        || "a name: a letter, then letters, digits, '-', '_' and '.', and no address".to_string();
     let name = words.value(|word| is_name(word).then(|| word.to_string()), could)?;
     if let Some(address) = names.address(&name) {
         let known = hex::dashed(address);
-        return Err(here.slip(format!("a name that is not taken; this one is {known}")));
+        return Err(words.slip_back(format!("a name that is not taken; this one is {known}")));
     }
     let could = || "an address such as 02-00-00-00-00-02".to_string();
     let address = words.value(hex::undashed, could)?;
@@ -78,46 +89,47 @@ fn address(words: &mut Words, names: &Names) -> Result<u64, Slip> {
 /// `tick`, `tick 30`, `tick 1000 keepalive 40`
 fn ticks(words: &mut Words) -> Result<Run, Slip> {
     let mut run = Run::once(Record::Tick);
-    if words.peek().is_none() {
-        return Ok(run);
+    if words.peek().is_some() {
+        run.times = words.value(count, || format!("a number from 1 to {MOST_TICKS}, {END}"))?;
     }
-    run.times = words.number(1, MOST_TICKS)?;
     if words.peek().is_some() {
         if !words.take_if("keepalive") {
-            return Err(words.slip("keepalive, '=>', '#' or the end of the line"));
+            return Err(words.slip(format!("keepalive, {END}")));
         }
-        run.alive = Some(words.number(1, MOST_TICKS)?);
+        run.alive = Some(words.value(count, || format!("a number from 1 to {MOST_TICKS}"))?);
     }
     Ok(run)
+}
+
+/// A number of ticks.
+fn count(word: &str) -> Option<u64> {
+    let count: usize = hex::decimal(word)?;
+    (1..=MOST_TICKS)
+        .contains(&count)
+        .then_some(u64::try_from(count).ok()?)
 }
 
 /// `settings ..`, each setting behind its word; `settings short`, with the address alone
 fn settings(words: &mut Words, names: &Names) -> Result<Record, Slip> {
     if words.take_if("short") {
-        let has_address = words.peek().is_some();
-        if has_address {
-            words.word("address")?;
-        }
-        let address = if has_address {
-            address(words, names)?
-        } else {
-            0
-        };
-        return Ok(Record::ShortSettings(address));
+        let mut left = vec!["address"];
+        return Ok(Record::ShortSettings(match words.peek() {
+            None => 0,
+            Some(_) => {
+                option(words, &mut left, "")?;
+                address(words, names)?
+            }
+        }));
     }
     let mut settings = Settings::DEFAULT;
-    let mut left = vec![
-        "address",
-        "level",
-        "wtr",
-        "hold-off",
-        "keepalive",
-        "fast",
-        "slow",
-        "forget",
-    ];
+    let mut left = SETTINGS.to_vec();
     while words.peek().is_some() {
-        match option(words, &mut left)? {
+        let or = if left.len() == SETTINGS.len() {
+            "short, "
+        } else {
+            ""
+        };
+        match option(words, &mut left, or)? {
             "address" => settings.address = address(words, names)?,
             "level" => settings.level = words.byte()?,
             "wtr" => settings.wtr = words.two_bytes()?,
@@ -132,8 +144,8 @@ fn settings(words: &mut Words, names: &Names) -> Result<Record, Slip> {
 }
 
 /// Takes one of the words left, which is then no longer left.
-fn option<'l>(words: &mut Words, left: &mut Vec<&'l str>) -> Result<&'l str, Slip> {
-    let could = || left.join(", ");
+fn option<'l>(words: &mut Words, left: &mut Vec<&'l str>, or: &str) -> Result<&'l str, Slip> {
+    let could = || format!("{or}{}, {END}", left.join(", "));
     let found = |word: &str| left.iter().position(|name| name.eq_ignore_ascii_case(word));
     let place = words.value(found, could)?;
     Ok(left.remove(place))
@@ -155,14 +167,15 @@ fn report(words: &mut Words, names: &Names) -> Result<Record, Slip> {
     let mut left = vec!["sequence", "ringlet"];
     while let Some(word) = words.peek() {
         if left.iter().any(|name| name.eq_ignore_ascii_case(word)) {
-            match option(words, &mut left)? {
+            match option(words, &mut left, "")? {
                 "sequence" => report.sequence = words.byte()?,
                 _ => report.ringlet = words.byte()?,
             }
         } else {
             let could = || {
                 let words = [&left[..], &["west and east request"]].concat();
-                format!("{} ({})", words.join(", "), code_words(REQUESTS))
+                let words = words.join(", ");
+                format!("{words} ({}), {END}", code_words(REQUESTS))
             };
             let west = words.value(|word| code(REQUESTS, word), could)?;
             report.requests = [west, words.code(REQUESTS)?];
@@ -211,9 +224,9 @@ fn entries(words: &mut Words) -> Result<Bytes, Slip> {
         } else if words.take_if("reserved") {
             Entry::Reserved(words.two_bytes()?, words.two_bytes()?)
         } else if block.is_empty() {
-            return Err(words.slip("weights, reserved, block or the end of the line"));
+            return Err(words.slip(format!("weights, reserved, block, {END}")));
         } else {
-            return Err(words.slip("weights, reserved or the end of the line"));
+            return Err(words.slip(format!("weights, reserved, {END}")));
         };
         block.extend(entry.bytes());
     }
@@ -224,15 +237,11 @@ fn entries(words: &mut Words) -> Result<Bytes, Slip> {
 fn bytes(words: &mut Words) -> Result<Bytes, Slip> {
     let mut bytes = Vec::new();
     while words.peek().is_some() {
-        let could = || {
-            format!(
-                "bytes such as 0A or 0A0B, or several alike such as 00*{}",
-                records::LONGEST
-            )
-        };
+        let could =
+            || format!("bytes such as 0A or 0A0B, up to {LONGEST_RUN} alike such as 00*9, {END}");
         bytes.extend(words.value(hex::bytes, could)?);
-        if u64::try_from(bytes.len()).is_ok_and(|bytes| bytes > MOST_BYTES) {
-            return Err(words.slip(TOO_LONG));
+        if bytes.len() > MOST_BYTES {
+            return Err(words.slip_back(TOO_LONG));
         }
     }
     Ok(bytes)

@@ -7,11 +7,9 @@ use crate::hex;
 pub struct Names(Vec<(String, u64)>);
 
 impl Names {
-    /// Adds a name; one that is there already keeps its address.
+    /// Adds a name that is not there yet.
     pub fn give(&mut self, name: &str, address: u64) {
-        if self.address(name).is_none() {
-            self.0.push((name.to_string(), address));
-        }
+        self.0.push((name.to_string(), address));
     }
 
     /// The address of a name.

@@ -17,24 +17,19 @@ pub fn pieces(bytes: &[u8]) -> Vec<&[u8]> {
 
 /// How many bytes the first record has; all of them, if it is the last that is read.
 fn first(bytes: &[u8]) -> usize {
-    let [low, high, rest @ ..] = bytes else {
-        return bytes.len();
-    };
-    let length = usize::from(u16::from_le_bytes([*low, *high]));
-    if (2..=LONGEST).contains(&length) && length <= rest.len() {
-        2 + length
-    } else {
-        bytes.len()
+    match length(bytes) {
+        Some(length) if length <= bytes.len() - 2 => 2 + length,
+        _ => bytes.len(),
     }
 }
 
-/// Whether the program reads on behind this piece.
-pub fn is_whole(piece: &[u8]) -> bool {
-    let [low, high, rest @ ..] = piece else {
-        return false;
+/// The length that a record begins with, if the program takes it.
+pub fn length(bytes: &[u8]) -> Option<usize> {
+    let [low, high, ..] = bytes else {
+        return None;
     };
     let length = usize::from(u16::from_le_bytes([*low, *high]));
-    (2..=LONGEST).contains(&length) && length == rest.len()
+    (2..=LONGEST).contains(&length).then_some(length)
 }
 
 /// The records of a drill, in words where there are any.
@@ -59,7 +54,6 @@ mod tests {
         for end in [&[0, 0, 1, 0][..], &[1, 0], &[0x0A, 4], &[9, 0, 1], &[7]] {
             let bytes = [tick, end].concat();
             assert_eq!(pieces(&bytes), [tick, end]);
-            assert!(is_whole(tick) && !is_whole(end));
         }
         assert!(pieces(&[]).is_empty());
     }

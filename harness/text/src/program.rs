@@ -3,7 +3,7 @@
 use std::env;
 use std::ffi::OsString;
 use std::fs::{self, File};
-use std::io::Read;
+use std::io::{ErrorKind, Read};
 use std::path::{Path, PathBuf};
 use std::process::{Child, Command, Stdio};
 use std::sync::mpsc;
@@ -11,7 +11,7 @@ use std::thread;
 use std::time::Duration;
 
 /// How long one drill of many may take.
-pub const TIME_LIMIT: Duration = Duration::from_secs(120);
+const TIME_LIMIT: Duration = Duration::from_secs(120);
 /// The script that runs the proved program, from the root of the repository.
 const USUAL: [&str; 2] = ["drills", "run"];
 
@@ -64,28 +64,61 @@ impl Program {
         Ok(Program { words })
     }
 
-    /// Runs a drill in a desk's own files. Without a limit it may take any time.
-    pub fn say(&self, drill: &[u8], desk: &Desk, limit: Option<Duration>) -> Result<Said, String> {
-        let file = desk.write(drill)?;
-        let errors = desk.errors()?;
-        let mut child = self
-            .command(&file, errors)
-            .spawn()
-            .map_err(|error| format!("cannot run {}: {error}", self.name()))?;
-        let lines = match read_in_time(&mut child, limit) {
-            Ok(lines) => lines,
-            Err(trouble) => {
-                // Whether it is still there does not matter any more.
-                let _ = child.kill();
-                let _ = child.wait();
-                return Err(format!("{}: {trouble}", self.name()));
+    /// Runs a drill in a desk's own files, and gives up on it after a time.
+    pub fn say(&self, drill: &[u8], desk: &Desk) -> Result<Said, String> {
+        let mut child = self.start(drill, desk)?;
+        match read_in_time(&mut child) {
+            Ok(lines) => {
+                let ended = self.ended(&mut child, desk)?;
+                Ok(Said { lines, ended })
             }
+            Err(trouble) => {
+                give_up(&mut child);
+                Err(format!("{}: {trouble}", self.name()))
+            }
+        }
+    }
+
+    /// Runs a drill for as long as it takes, and hands on what it says as it comes; it ends if nobody takes it any more. How it ended, if not well.
+    pub fn stream(
+        &self,
+        drill: &[u8],
+        desk: &Desk,
+        take: &mut dyn FnMut(&[u8]) -> bool,
+    ) -> Result<Option<String>, String> {
+        let mut child = self.start(drill, desk)?;
+        let Some(mut output) = child.stdout.take() else {
+            return Err(format!("{}: no output", self.name()));
         };
+        let mut buffer = [0; 1 << 16];
+        loop {
+            match output.read(&mut buffer) {
+                Ok(0) => return self.ended(&mut child, desk),
+                Ok(count) if take(&buffer[..count]) => {}
+                Ok(_) => {
+                    give_up(&mut child);
+                    return Ok(None);
+                }
+                Err(error) if error.kind() == ErrorKind::Interrupted => {}
+                Err(error) => {
+                    give_up(&mut child);
+                    return Err(format!("{}: cannot read its output: {error}", self.name()));
+                }
+            }
+        }
+    }
+
+    fn start(&self, drill: &[u8], desk: &Desk) -> Result<Child, String> {
+        let file = desk.write(drill)?;
+        let child = self.command(&file, desk.errors()?).spawn();
+        child.map_err(|error| format!("cannot run {}: {error}", self.name()))
+    }
+
+    fn ended(&self, child: &mut Child, desk: &Desk) -> Result<Option<String>, String> {
         let status = child
             .wait()
             .map_err(|error| format!("{}: {error}", self.name()))?;
-        let ended = (!status.success()).then(|| format!("{status}{}", desk.first_error()));
-        Ok(Said { lines, ended })
+        Ok((!status.success()).then(|| format!("{status}{}", desk.first_error())))
     }
 
     fn command(&self, file: &Path, errors: File) -> Command {
@@ -104,8 +137,14 @@ impl Program {
     }
 }
 
+/// Whether it is still there does not matter any more.
+fn give_up(child: &mut Child) {
+    let _ = child.kill();
+    let _ = child.wait();
+}
+
 /// Reads standard output to its end, in a thread so that the wait can be cut short.
-fn read_in_time(child: &mut Child, limit: Option<Duration>) -> Result<Vec<u8>, String> {
+fn read_in_time(child: &mut Child) -> Result<Vec<u8>, String> {
     let Some(mut output) = child.stdout.take() else {
         return Err("no output".to_string());
     };
@@ -116,10 +155,9 @@ fn read_in_time(child: &mut Child, limit: Option<Duration>) -> Result<Vec<u8>, S
         // Nobody listens any more if the time is over.
         let _ = sender.send(read);
     });
-    let limit = limit.unwrap_or(Duration::MAX);
-    match receiver.recv_timeout(limit) {
+    match receiver.recv_timeout(TIME_LIMIT) {
         Ok(read) => read.map_err(|error| format!("cannot read its output: {error}")),
-        Err(_) => Err(format!("no end after {} s", limit.as_secs())),
+        Err(_) => Err(format!("no end after {} s", TIME_LIMIT.as_secs())),
     }
 }
 
@@ -190,7 +228,7 @@ pub fn fresh_directory(purpose: &str) -> Result<PathBuf, String> {
         let directory = top.join(name);
         match fs::create_dir(&directory) {
             Ok(()) => return Ok(directory),
-            Err(error) if error.kind() == std::io::ErrorKind::AlreadyExists => {}
+            Err(error) if error.kind() == ErrorKind::AlreadyExists => {}
             Err(error) => return Err(cannot("make", &directory, &error)),
         }
     }

@@ -5,13 +5,14 @@ use std::ops::Range;
 use crate::expected::Expected;
 use crate::grammar::content;
 use crate::names::Names;
+use crate::record::Record;
 use crate::records::Bytes;
 use crate::run::Run;
 use crate::slip::{Mistake, Slip};
 use crate::words::Words;
 
 /// The most bytes of a drill.
-pub(crate) const MOST_BYTES: u64 = 1 << 26;
+pub(crate) const MOST_BYTES: usize = 1 << 26;
 /// What could stand in place of more.
 pub(crate) const TOO_LONG: &str = "less: a drill has at most 64 MiB";
 
@@ -48,13 +49,11 @@ impl Text {
         let mut left = MOST_BYTES;
         for (place, bytes) in lines(source).enumerate() {
             let number = place + 1;
-            let line = String::from_utf8_lossy(bytes);
-            let is_utf_8 = std::str::from_utf8(bytes).is_ok();
-            match line_of(&line, is_utf_8, &mut text.names, &mut left) {
+            match line_of(bytes, &mut text.names, &mut left) {
                 Ok(line) => text.lines.push(Line { number, ..line }),
                 Err(slip) => mistakes.push(Mistake {
                     line: number,
-                    source: line.into_owned(),
+                    source: String::from_utf8_lossy(bytes).into_owned(),
                     slip,
                 }),
             }
@@ -69,6 +68,18 @@ impl Text {
     /// The bytes of the drill.
     pub fn bytes(&self) -> Bytes {
         self.places().0
+    }
+
+    /// The records that its lines stand for, one after another.
+    pub fn records(&self) -> impl Iterator<Item = Record> + '_ {
+        let runs = self.lines.iter().filter_map(|line| line.run.as_ref());
+        runs.flat_map(Run::records)
+    }
+
+    /// The lines that it expects, as the program prints them.
+    pub fn expected(&self) -> String {
+        let expected = self.lines.iter().filter_map(|line| line.expected.as_ref());
+        expected.map(Expected::printed).collect()
     }
 
     /// The bytes of the drill, and where among them those of each line stand.
@@ -94,55 +105,71 @@ fn lines(source: &[u8]) -> impl Iterator<Item = &[u8]> {
 }
 
 /// Reads one line. Names that it gives are added; its bytes are taken from those left.
-fn line_of(source: &str, is_utf_8: bool, names: &mut Names, left: &mut u64) -> Result<Line, Slip> {
-    if !is_utf_8 {
-        let at = source.find('\u{fffd}').unwrap_or(0);
-        return Err(Slip {
-            at,
-            stands: "\u{fffd}".to_string(),
-            could: "letters in UTF-8, or a drill in bytes (its second byte is below 5)".to_string(),
-        });
-    }
+fn line_of(bytes: &[u8], names: &mut Names, left: &mut usize) -> Result<Line, Slip> {
+    let source = letters(bytes)?;
     let (said, comment) = match source.find('#') {
         Some(at) => (&source[..at], Some(source[at..].trim_end().to_string())),
         None => (source, None),
     };
-    let (said, behind) = match said.as_bytes().windows(2).position(|pair| pair == b"=>") {
-        Some(at) => (&said[..at], Some(Words::of(&said[at + 2..], at + 2))),
-        None => (said, None),
-    };
-    let mut words = Words::of(said, 0);
-    let run = content(&mut words, names)?;
-    words.end()?;
-    let expected = match (behind, &run) {
-        (None, _) => None,
-        (Some(mut behind), Some(_)) => Some(Expected::read(&mut behind)?),
-        (Some(_), None) => {
+    let arrow = said.as_bytes().windows(2).position(|pair| pair == b"=>");
+    let words = &said[..arrow.unwrap_or(said.len())];
+    let run = run_of(words, names, left)?;
+    let expected = match arrow {
+        None => None,
+        Some(at) if run.is_none() => {
             return Err(Slip {
-                at: said.len(),
+                at,
                 stands: "=>".to_string(),
                 could: "a record before it; what is expected belongs to a record".to_string(),
             })
         }
+        Some(at) => Some(Expected::read(&mut Words::of(&said[at + 2..], at + 2))?),
     };
-    take_bytes(run.as_ref(), &words, left)?;
     Ok(Line {
         number: 0,
-        words: said.trim().to_string(),
+        words: words.trim().to_string(),
         run,
         expected,
         comment,
     })
 }
 
-/// A drill has an end: what a line adds is taken from what is left.
-fn take_bytes(run: Option<&Run>, words: &Words, left: &mut u64) -> Result<(), Slip> {
-    let bytes = run.map_or(0, Run::most_bytes);
-    match left.checked_sub(bytes) {
-        Some(rest) => {
-            *left = rest;
-            Ok(())
+/// A line as letters. Others than those of a text are told, also in a comment, so that no text has them.
+fn letters(bytes: &[u8]) -> Result<&str, Slip> {
+    let slip = |at: usize, stands: String, could: &str| Slip {
+        at,
+        stands,
+        could: could.to_string(),
+    };
+    let line = std::str::from_utf8(bytes).map_err(|error| {
+        let at = error.valid_up_to();
+        let byte = bytes
+            .get(at)
+            .map_or(String::new(), |byte| format!("byte {byte:02X}"));
+        slip(at, byte, "a letter in UTF-8")
+    })?;
+    let is_odd = |letter: char| letter.is_control() && letter != '\t';
+    match line.find(is_odd) {
+        None => Ok(line),
+        Some(at) => {
+            let odd = line[at..]
+                .chars()
+                .take(1)
+                .map(|letter| letter.escape_default().to_string());
+            Err(slip(at, odd.collect(), "a letter that can be shown"))
         }
-        None => Err(words.slip(TOO_LONG)),
     }
+}
+
+/// What the words of a line stand for. A drill has an end: what the line adds is taken from what is left.
+fn run_of(words: &str, names: &mut Names, left: &mut usize) -> Result<Option<Run>, Slip> {
+    let mut words = Words::of(words, 0);
+    let run = content(&mut words, names)?;
+    words.end()?;
+    let bytes = run.as_ref().map_or(0, Run::most_bytes);
+    match left.checked_sub(bytes) {
+        Some(rest) => *left = rest,
+        None => return Err(words.slip_back(TOO_LONG)),
+    }
+    Ok(run)
 }

@@ -1,5 +1,6 @@
 //! One record of a drill: what the words of the rules can say, or bytes.
 
+use crate::pieces::length;
 use crate::records::{self, Bytes, Report, Settings};
 
 /// A record. Every field takes any number that its bytes can hold.
@@ -53,11 +54,10 @@ impl Record {
 
 /// Kind and body of a whole record.
 fn body(piece: &[u8]) -> Option<(u16, &[u8])> {
-    let [low, high, kind_low, kind_high, body @ ..] = piece else {
+    let [_, _, kind_low, kind_high, body @ ..] = piece else {
         return None;
     };
-    let length = usize::from(u16::from_le_bytes([*low, *high]));
-    let whole = length == piece.len() - 2 && length <= records::LONGEST;
+    let whole = length(piece) == Some(piece.len() - 2);
     whole.then_some((u16::from_le_bytes([*kind_low, *kind_high]), body))
 }
 

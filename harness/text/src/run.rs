@@ -4,6 +4,8 @@ use crate::record::Record;
 
 /// The bytes of the longest record whose length is fixed: settings.
 const LONGEST_FIXED: usize = 19;
+/// The bytes of two keepalives.
+const KEEPALIVES: usize = 10;
 
 /// A record, and how often it comes.
 #[derive(Clone, Debug, PartialEq, Eq)]
@@ -37,16 +39,15 @@ impl Run {
     }
 
     /// No fewer bytes than the run has.
-    pub fn most_bytes(&self) -> u64 {
+    pub fn most_bytes(&self) -> usize {
         let one = match &self.record {
             Record::Bytes(bytes) => bytes.len(),
             Record::Attributes(_, _, block) => 11 + block.len(),
+            Record::Tick => 4,
             _ => LONGEST_FIXED,
         };
-        let one = u64::try_from(one).unwrap_or(u64::MAX);
-        let keepalives = self.alive.map_or(0, |every| self.times / every + 1);
-        self.times
-            .saturating_mul(one)
-            .saturating_add(keepalives.saturating_mul(10))
+        let times = usize::try_from(self.times).unwrap_or(usize::MAX);
+        let each = one + if self.alive.is_some() { KEEPALIVES } else { 0 };
+        times.saturating_mul(each)
     }
 }

@@ -14,28 +14,38 @@ struct Row([String; 4]);
 /// Cells wider than this do not widen their column.
 const WIDEST: usize = 66;
 
-/// The drill's lines with words beside them.
-pub fn say(play: &Play, names: &Names) -> String {
-    let told = play.told.iter().enumerate();
-    let rows = told.map(|(place, told)| row(told, place == 0, names));
-    let beyond = play.beyond.iter().map(|line| {
-        let record = "no record".to_string();
-        Row([line.clone(), record, String::new(), String::new()])
-    });
-    let rows: Vec<Row> = rows.chain(beyond).collect();
-    let widths: Vec<usize> = (0..3).map(|column| width(&rows, column)).collect();
-    rows.iter().map(|row| row.text(&widths)).collect()
-}
-
-fn width(rows: &[Row], column: usize) -> usize {
-    let cells = rows.iter().map(|row| row.0[column].chars().count());
-    cells.filter(|&width| width <= WIDEST).max().unwrap_or(0)
+/// The drill's lines with words beside them, one by one. Rows are made twice, so that a long drill needs no room for them.
+pub fn say(play: &Play, names: &Names, each: &mut dyn FnMut(&str) -> bool) {
+    let rows = || {
+        let told = play.told.iter().enumerate();
+        let rows = told.map(|(place, told)| row(told, place == 0, names));
+        let beyond = play.beyond.iter().map(|line| {
+            let record = "no record".to_string();
+            Row([line.clone(), record, String::new(), String::new()])
+        });
+        rows.chain(beyond)
+    };
+    let mut widths = [0; 3];
+    for row in rows() {
+        for (width, cell) in widths.iter_mut().zip(&row.0) {
+            let letters = cell.chars().count();
+            *width = if letters > WIDEST {
+                *width
+            } else {
+                letters.max(*width)
+            };
+        }
+    }
+    for row in rows() {
+        if !each(&row.text(widths)) {
+            return;
+        }
+    }
 }
 
 impl Row {
-    fn text(&self, widths: &[usize]) -> String {
+    fn text(&self, [one, two, three]: [usize; 3]) -> String {
         let [line, record, result, stand] = &self.0;
-        let (one, two, three) = (widths[0], widths[1], widths[2]);
         let text = format!("{line:one$}  | {record:two$}  | {result:three$}  | {stand}");
         let text = text.trim_end_matches([' ', '|']);
         format!("{text}\n")
@@ -170,8 +180,7 @@ fn stand(full: &Full) -> String {
     };
     let sent = match full.reports {
         0 => String::new(),
-        1 => format!(", report {} sent", full.sequence),
-        reports => format!(", {reports} reports sent, the last {}", full.sequence),
+        _ => format!(", report {} sent", full.sequence),
     };
     format!("west {west}, east {east}, {stations}{sent}")
 }
@@ -184,7 +193,12 @@ mod tests {
 
     fn said(source: &str, printed: &str) -> String {
         let text = Text::read(source.as_bytes()).unwrap();
-        say(&play(&text.bytes(), printed), &text.names)
+        let mut said = String::new();
+        say(&play(&text.bytes(), printed), &text.names, &mut |row| {
+            said += row;
+            true
+        });
+        said
     }
 
     #[test]
@@ -202,17 +216,153 @@ mod tests {
     }
 
     #[test]
-    fn refusals_and_the_end_have_their_reasons() {
-        let source = "settings short\nlink 2 good\nbytes 03 00 01 00 00\nbytes 00 00\ntick\n";
-        let said = said(source, "1 4 0 0 0 0 0\n2 4 0 0 0 0 0\n3 2\n");
+    fn every_number_has_its_words() {
+        let report = "report west from 02-00-00-00-00-02 hop";
+        let cases = [
+            ("tick", "0 0 0 0 0 0", "taken (0)"),
+            (
+                "attributes west from 02-00-00-00-00-02",
+                "0 0 0 0 1 0",
+                "taken (0): attributes replaced",
+            ),
+            (
+                "bytes 02 00 63 00",
+                "3 0 0 0 0 0",
+                "not an event (3): refused",
+            ),
+            ("link 2 good", "4 0 0 0 0 0", "span above 1 (4): refused"),
+            ("link west 3", "4 0 0 0 0 0", "unknown status (4): refused"),
+            (
+                "operator west sf",
+                "4 0 0 0 0 0",
+                "unknown operator request (4): refused",
+            ),
+            (
+                &format!("{report} 1 ringlet 2"),
+                "4 0 0 0 0 0",
+                "ringlet above 1 (4): refused",
+            ),
+            (
+                "report west from 02-00-00-00-00-02 ttl 0",
+                "4 0 0 0 0 0",
+                "TTL 0 (4): refused",
+            ),
+            (
+                "report west from 03-00-00-00-00-02 hop 1",
+                "4 0 0 0 0 0",
+                "odd first address byte (4): refused",
+            ),
+            (
+                &format!("{report} 1 6 0"),
+                "4 0 0 0 0 0",
+                "reported request above 5 (4): refused",
+            ),
+            (
+                "attributes east from 03-00-00-00-00-02",
+                "4 0 0 0 0 0",
+                "odd first address byte (4): refused",
+            ),
+            (
+                "bytes 03 00 01 00 00",
+                "4 0 0 0 0 0",
+                "wrong body length (4): refused",
+            ),
+            (
+                &format!("{report} 1"),
+                "5 0 0 0 0 0",
+                "own address heard (5): refused",
+            ),
+            (
+                &format!("{report} 64"),
+                "6 0 0 0 0 0",
+                "hop above 63 (6): refused",
+            ),
+            (
+                "attributes east from 02-00-00-00-00-02",
+                "7 0 0 0 0 0",
+                "attributes of a station not in the table (7): refused",
+            ),
+            (
+                "attributes east from 02-00-00-00-00-02",
+                "8 0 0 0 1 0",
+                "block malformed (8): refused",
+            ),
+            (
+                &format!("{report} 2 ringlet 1"),
+                "20 0 0 0 0 0",
+                "wrong ringlet (20): nothing stored",
+            ),
+            (
+                &format!("{report} 1 ringlet 1"),
+                "20 4 0 1 0 1",
+                "wrong ringlet (20): nothing stored, cable mark set",
+            ),
+            (
+                &format!("{report} 1"),
+                "21 4 0 1 0 0",
+                "span down (21): nothing stored",
+            ),
+            (
+                &format!("{report} 1"),
+                "22 0 0 0 1 0",
+                "old report (22): nothing stored",
+            ),
+            (
+                &format!("{report} 1"),
+                "23 0 0 0 63 0",
+                "no place (23): nothing stored",
+            ),
+            (
+                "attributes west from 02-00-00-00-00-02",
+                "24 0 0 0 1 0",
+                "block set aside (24): the station is behind",
+            ),
+            ("way 02-00-00-00-00-02", "way 0", "west (0)"),
+            ("way 02-00-00-00-00-02", "way 1", "east (1)"),
+            ("way 02-00-00-00-00-02", "way 2", "no way (2)"),
+            ("way 02-00-00-00-00-02", "way 3", "not in the table (3)"),
+            (
+                "way 03-00-00-00-00-02",
+                "4",
+                "wrong length or odd address (4): not answered",
+            ),
+            (
+                "bytes 00 00",
+                "2",
+                "cut, or a length outside 2 to 1,033 (2): the drill ends",
+            ),
+        ];
+        for (record, line, words) in cases {
+            let said = said(
+                &format!("settings short\n{record}\n"),
+                &format!("1 {line}\n"),
+            );
+            let row = said.lines().nth(1).unwrap();
+            assert_eq!(row.split('|').nth(2).unwrap().trim(), words, "{row}");
+        }
+        for (refusal, words) in [
+            (2, "cut, empty"),
+            (3, "not a settings record"),
+            (4, "wrong length"),
+        ] {
+            let said = said("tick\n", &format!("settings {refusal}\n"));
+            assert!(said.contains(words) && said.contains(&format!("({refusal}): the drill ends")));
+        }
+    }
+
+    #[test]
+    fn the_node_is_told_by_name() {
+        let said = said(
+            "settings short\ntick 6\n",
+            "1 0 0 1 0 0 0\n2 0 2 3 7 1 1\n3 0 4 5 8 63 0\n4 0 0 0 0 0 0\n",
+        );
         for words in [
-            "span above 1 (4): refused",
-            "wrong body length (4): refused",
-            "(2): the drill ends",
+            "west IDLE, east WTR, no station\n",
+            "west MS, east SD, 1 station, report 7 sent\n",
+            "west SF, east FS, 63 stations\n",
+            "| not read: the drill has ended\n",
         ] {
             assert!(said.contains(words), "{words}\n{said}");
         }
-        assert!(super::tests::said("tick\n", "settings 3\n")
-            .contains("not a settings record (3): the drill ends"));
     }
 }

@@ -21,15 +21,19 @@ pub enum Source {
     Bytes(Bytes),
 }
 
-/// Every record that the program takes has a length of at most 1,033, and no text has such a second byte.
+/// The text of the worked drill.
+pub const WORKED: &[u8] = include_bytes!("../../../drills/worked.drill");
+
+/// Among the first four bytes of a record stand the high bytes of a length up to 1,033 and of its kind; no text has a byte below 9.
 pub fn is_bytes(file: &[u8]) -> bool {
-    file.get(1).is_none_or(|&byte| byte < 5)
+    file.len() < 2 || file.iter().take(4).any(|&byte| byte < 9)
 }
 
 impl Source {
     /// The drill in a file, or what is wrong with it; '-' is standard input.
     pub fn read(name: &str) -> Result<Source, String> {
-        Source::of(name, content(name)?)
+        let name_of = if name == "-" { "standard input" } else { name };
+        Source::of(name_of, content(name)?)
     }
 
     /// The drill that a file's content is, or the mistakes in it.
@@ -37,9 +41,8 @@ impl Source {
         if is_bytes(&file) {
             return Ok(Source::Bytes(file));
         }
-        Text::read(&file)
-            .map(Source::Text)
-            .map_err(|mistakes| listed(name, &mistakes))
+        let read = Text::read(&file).map(Source::Text);
+        read.map_err(|mistakes| listed(name, &mistakes))
     }
 
     /// The bytes of the drill.
@@ -77,4 +80,27 @@ fn content(name: &str) -> Result<Bytes, String> {
     let read = io::stdin().read_to_end(&mut bytes);
     read.map_err(|error| format!("cannot read standard input: {error}"))?;
     Ok(bytes)
+}
+
+#[cfg(test)]
+mod tests {
+    use super::*;
+
+    #[test]
+    fn bytes_and_texts_are_told_apart() {
+        let bytes: [&[u8]; 8] = [
+            &[],
+            b"a",
+            &[0x11, 0, 0x20, 0],
+            &[0xFF, 0xFF, 0x20, 0],
+            &[0x0A, 4, 0x20, 0],
+            &[0xFF, 0xFF, 1, 0x28],
+            &[9, 9, 9, 8],
+            &[2, 0],
+        ];
+        assert!(bytes.iter().all(|file| is_bytes(file)));
+        let texts = ["# a", "\t\n\r\n# b", "tick\n", "\u{feff}tick", "\n\n", "ab"];
+        assert!(texts.iter().all(|text| !is_bytes(text.as_bytes())));
+        assert!(!is_bytes(WORKED));
+    }
 }

@@ -2,7 +2,7 @@
 
 use std::ops::Range;
 
-use crate::pieces::{is_whole, pieces};
+use crate::pieces::pieces;
 use crate::reading::Text;
 use crate::record::Record;
 
@@ -28,19 +28,14 @@ pub struct Play {
 
 /// Lays the lines beside the records: `settings N` beside the first, any other beside those behind it.
 pub fn play(bytes: &[u8], printed: &str) -> Play {
-    let mut lines = printed.lines().map(str::to_string).peekable();
+    let mut lines = lines(printed).into_iter().peekable();
     let refused = lines
         .peek()
         .is_some_and(|line| line.starts_with("settings "));
     let mut play = Play::default();
     let mut start = 0;
-    let mut ended = false;
     for (place, piece) in pieces(bytes).into_iter().enumerate() {
-        let has_line = if place == 0 {
-            refused
-        } else {
-            !refused && !ended
-        };
+        let has_line = refused == (place == 0);
         let line = if has_line { lines.next() } else { None };
         play.told.push(Told {
             start,
@@ -48,10 +43,20 @@ pub fn play(bytes: &[u8], printed: &str) -> Play {
             line,
         });
         start += piece.len();
-        ended = !is_whole(piece);
     }
     play.beyond = lines.collect();
     play
+}
+
+/// What was printed, line by line; a last line without its end is another line.
+fn lines(printed: &str) -> Vec<String> {
+    let pieces = printed
+        .split_inclusive('\n')
+        .map(|line| match line.strip_suffix('\n') {
+            Some(line) => line.to_string(),
+            None => format!("{line} (no line feed)"),
+        });
+    pieces.collect()
 }
 
 /// A text with what was printed: for each of its lines, the records that begin in it.
@@ -65,16 +70,15 @@ pub struct Staged {
 }
 
 impl Staged {
-    /// Lays the lines beside the text. An empty drill's only line goes to the first line that has a record.
+    /// Lays the lines beside the text. An empty drill's only line goes to the first line that has a record, or to none.
     pub fn of(text: &Text, printed: &str) -> Staged {
         let (bytes, places) = text.places();
         let mut play = play(&bytes, printed);
-        if play.told.is_empty() && text.lines.iter().any(|line| line.run.is_some()) {
-            let line = (!play.beyond.is_empty()).then(|| play.beyond.remove(0));
+        if bytes.is_empty() && !play.beyond.is_empty() {
             play.told.push(Told {
                 start: 0,
                 record: Record::Bytes(Vec::new()),
-                line,
+                line: Some(play.beyond.remove(0)),
             });
         }
         let mut of_line = Vec::new();
@@ -166,6 +170,13 @@ mod tests {
     fn nothing_is_read_behind_a_bad_length() {
         let lines = staged("settings short\nbytes 00 00\ntick\n", "1 2\n");
         assert_eq!(lines, [vec![], vec!["1 2".to_string()], vec![]]);
+    }
+
+    #[test]
+    fn a_carriage_return_or_a_missing_line_feed_is_another_line() {
+        assert_eq!(lines("1 2\r\n2 4"), ["1 2\r", "2 4 (no line feed)"]);
+        assert_eq!(lines("1 2\n\n"), ["1 2", ""]);
+        assert!(lines("").is_empty());
     }
 
     #[test]

@@ -4,6 +4,8 @@ use crate::codes;
 use crate::hex;
 use crate::slip::Slip;
 
+/// What may stand behind the last word of a record.
+pub const END: &str = "'=>', '#' or the end of the line";
 /// Most lines have no more words.
 const USUAL: usize = 12;
 
@@ -41,13 +43,6 @@ impl<'t> Words<'t> {
         self.words.get(self.next).map(|&(_, word)| word)
     }
 
-    /// Takes the next word.
-    pub fn take(&mut self) -> Option<&'t str> {
-        let word = self.peek()?;
-        self.next += 1;
-        Some(word)
-    }
-
     /// Takes the next word if it is this one, in small or large letters.
     pub fn take_if(&mut self, wanted: &str) -> bool {
         let is = self
@@ -59,7 +54,16 @@ impl<'t> Words<'t> {
 
     /// A mistake at the next word.
     pub fn slip(&self, could: impl Into<String>) -> Slip {
-        let (at, stands) = self.words.get(self.next).copied().unwrap_or((self.end, ""));
+        self.slip_at(self.next, could)
+    }
+
+    /// A mistake at the word that was taken last.
+    pub fn slip_back(&self, could: impl Into<String>) -> Slip {
+        self.slip_at(self.next.saturating_sub(1), could)
+    }
+
+    fn slip_at(&self, place: usize, could: impl Into<String>) -> Slip {
+        let (at, stands) = self.words.get(place).copied().unwrap_or((self.end, ""));
         Slip {
             at,
             stands: stands.to_string(),
@@ -122,7 +126,7 @@ impl<'t> Words<'t> {
     pub fn end(&self) -> Result<(), Slip> {
         match self.peek() {
             None => Ok(()),
-            Some(_) => Err(self.slip("'=>', '#' or the end of the line")),
+            Some(_) => Err(self.slip(END)),
         }
     }
 }

@@ -2,6 +2,7 @@
 
 use crate::codes::{word, ASKED, REQUESTS, SPANS, STATUSES};
 use crate::entries::{entries, Entry};
+use crate::grammar::MOST_TICKS;
 use crate::hex;
 use crate::names::Names;
 use crate::pieces;
@@ -15,18 +16,22 @@ pub fn text(bytes: &[u8]) -> String {
 
 /// The same for records at hand.
 pub fn plain(records: &[Record]) -> String {
-    let names = Names::default();
     let some = records
         .iter()
-        .filter(|record| **record != Record::Bytes(Vec::new()));
+        .filter(|record| !matches!(record, Record::Bytes(bytes) if bytes.is_empty()));
     let some: Vec<&Record> = some.collect();
-    let runs =
-        some.chunk_by(|one, next| [one, next].iter().all(|record| ***record == Record::Tick));
-    let lines = runs.map(|run| match run.len() {
-        1 => words(run[0], &names) + "\n",
-        ticks => format!("tick {ticks}\n"),
+    let runs = some.chunk_by(|one, next| **one == Record::Tick && one == next);
+    let runs = runs.flat_map(|run| run.chunks(MOST_TICKS));
+    let lines = runs.map(|run| match run {
+        [one] => words(one, &Names::default()) + "\n",
+        run => ticks(run.len()) + "\n",
     });
     lines.collect()
+}
+
+/// So many ticks in words.
+pub fn ticks(count: usize) -> String {
+    format!("tick {count}")
 }
 
 /// A record in words, with the names that addresses have.

@@ -3,7 +3,7 @@
 use std::fs;
 use std::path::Path;
 
-use text::pieces;
+use text::accepting::accept;
 use text::reading::Text;
 use text::record::Record;
 use text::writing;
@@ -23,22 +23,28 @@ fn drills() -> Vec<(String, Text)> {
     read.collect()
 }
 
-/// The records that the lines of a text stand for, one after another.
-fn records(text: &Text) -> Vec<Record> {
-    let runs = text.lines.iter().filter_map(|line| line.run.as_ref());
-    runs.flat_map(|run| run.records()).collect()
-}
-
 #[test]
 fn text_to_bytes_to_text_is_the_same() {
     let drills = drills();
     assert!(drills.len() > 200);
     for (name, text) in drills {
         let written = writing::text(&text.bytes());
-        assert_eq!(written, writing::plain(&records(&text)), "{name}");
+        let records: Vec<Record> = text.records().collect();
+        assert_eq!(written, writing::plain(&records), "{name}");
         let again = Text::read(written.as_bytes()).unwrap();
         assert_eq!(again.bytes(), text.bytes(), "{name}");
-        assert_eq!(pieces::joined(&records(&text)), text.bytes(), "{name}");
+    }
+}
+
+#[test]
+fn accepting_what_is_expected_changes_nothing() {
+    for (name, text) in drills() {
+        let accepted = accept(&text, &text.expected());
+        assert!(accepted.kept.is_empty(), "{name}: {:?}", accepted.kept);
+        assert!(
+            accepted.source == fs::read_to_string(&name).unwrap(),
+            "{name}"
+        );
     }
 }
 

@@ -119,20 +119,40 @@ fn all_wants_every_line() {
         output(&place.run(LINES, &["--all", &good, &good])).0,
         Some(0)
     );
-    let less = place.file(
-        "b.drill",
-        format!("# shows\n{}", WORKED.replace("=> 2 way 0", "")),
-    );
-    let unsaid = place.file("c.drill", WORKED);
+    let file = |name: &str, source: &str| place.file(name, source);
     let bytes = place.file("d.drill", [2, 0, 1, 0]);
+    let shown = format!("# shows\n{WORKED}");
     let cases = [
-        (&less, "1 lines are printed"),
-        (&unsaid, "in its first line"),
-        (&bytes, "is no text"),
+        (
+            file("b.drill", &shown.replace("=> 2 way 0", "")),
+            1,
+            "1 lines are printed",
+        ),
+        (file("c.drill", WORKED), 1, "in its first line"),
+        (file("e.drill", "# nothing\n"), 1, "has no record"),
+        (
+            file("f.drill", &shown.replace("2 way 0", "2 way 1")),
+            1,
+            "is not as expected",
+        ),
+        (
+            file(
+                "g.drill",
+                &format!("# shows\n# Reports by hand: 1\n{WORKED}"),
+            ),
+            1,
+            "1 reports by hand, 0 reports printed",
+        ),
+        (
+            file("h.drill", &shown.replace("hop", "hopp")),
+            2,
+            "'hopp' stands",
+        ),
+        (bytes, 2, "is no text"),
     ];
-    for (file, words) in cases {
-        let (status, said, _) = output(&place.run(LINES, &["--all", &good, file]));
-        assert_eq!(status, Some(1));
+    for (file, wanted, words) in cases {
+        let (status, said, _) = output(&place.run(LINES, &["--all", &good, &file]));
+        assert_eq!(status, Some(wanted), "{said}");
         assert!(
             said.contains(words) && said.ends_with("drills: 1 as expected, 1 not\n"),
             "{said}"
@@ -141,12 +161,116 @@ fn all_wants_every_line() {
 }
 
 #[test]
+fn a_program_that_says_it_otherwise_differs() {
+    let place = Place::new("otherwise");
+    let file = place.file("a.drill", format!("# shows\n{WORKED}"));
+    let cases = [
+        LINES.replace('\n', "\r\n"),
+        LINES.trim_end().to_string(),
+        format!("{LINES}3 0 0 0 0 1 0\n"),
+        format!("{LINES}\n"),
+        LINES.replace("2 way 0\n", ""),
+        String::new(),
+    ];
+    for lines in cases {
+        let (status, said, complained) = output(&place.run(&lines, &[&file]));
+        assert_eq!((status, &said), (Some(1), &lines));
+        assert!(
+            complained.starts_with("drill: not as expected in "),
+            "{complained}"
+        );
+        assert_eq!(output(&place.run(&lines, &["--all", &file])).0, Some(1));
+        assert_eq!(output(&place.run(&lines, &["--say", &file])).0, Some(1));
+    }
+}
+
+#[test]
+fn a_program_that_ends_badly_is_2() {
+    let place = Place::new("badly");
+    let file = place.file("a.drill", format!("# shows\n{WORKED}"));
+    let program = place.file(
+        "bad",
+        format!(
+            "printf '{}'; echo why >&2; exit 3\n",
+            LINES.replace('\n', "\\n")
+        ),
+    );
+    let command = format!("sh {program}");
+    for task in [
+        &["--drill", &command, &file][..],
+        &["--drill", &command, "--say", &file],
+        &["--drill", &command, "--all", &file],
+    ] {
+        let run = Command::new(TEXT).args(task).output().unwrap();
+        let (status, said, complained) = output(&run);
+        assert_eq!(status, Some(2), "{task:?}");
+        assert!(
+            (said + &complained).contains("ended badly: exit status: 3: why"),
+            "{task:?}"
+        );
+    }
+}
+
+#[test]
+fn what_comes_before_must_end_well_and_follows_the_reading() {
+    let place = Place::new("before");
+    let good = place.file("a.drill", WORKED);
+    let bad = place.file("b.drill", WORKED.replace("hop", "hopp"));
+    let (status, _, complained) = output(&place.run(LINES, &["--before", "false", &good]));
+    assert_eq!(status, Some(2));
+    assert!(complained.contains("false ended with"), "{complained}");
+    assert!(output(&place.run(LINES, &["--before", "false", &bad]))
+        .2
+        .contains("'hopp' stands"));
+    assert_eq!(
+        output(&place.run(LINES, &["--before", "false", "--bytes", &good])).0,
+        Some(0)
+    );
+    assert_eq!(
+        output(&place.run(LINES, &["--before", "true", &good])).0,
+        Some(0)
+    );
+}
+
+#[test]
+fn standard_input_is_a_file_and_closed_output_no_trouble() {
+    let place = Place::new("input");
+    let run = |content: &str, arguments: &str| {
+        let file = place.file("input", content);
+        let program = place.file(
+            "program",
+            format!("printf '{}'\n", LINES.replace('\n', "\\n")),
+        );
+        let line = format!("{TEXT} --drill 'sh {program}' {arguments} - < {file}; echo $? >&2");
+        output(&Command::new("sh").args(["-c", &line]).output().unwrap())
+    };
+    assert_eq!(run(WORKED, ""), (Some(0), LINES.into(), "0\n".into()));
+    assert!(run("tock\n", "")
+        .2
+        .starts_with("drill: standard input, line 1: 'tock' stands"));
+    let line = format!("({TEXT} --help; echo $? >&2) | true");
+    let many = Command::new("sh").args(["-c", &line]).output().unwrap();
+    assert_eq!(output(&many).2, "0\n");
+}
+
+#[test]
+fn without_a_file_it_is_the_worked_drill() {
+    let place = Place::new("worked");
+    let (status, said, _) = output(&place.run("", &["--text"]));
+    assert_eq!(status, Some(0));
+    assert!(said.starts_with(
+        "settings address 02-00-00-00-00-01 wtr 0 keepalive 50 forget 10\nlink west failed\n"
+    ));
+}
+
+#[test]
 fn what_cannot_be_used_is_2() {
     let place = Place::new("cannot");
     let file = place.file("a.drill", WORKED);
-    let runs: [&[&str]; 7] = [
+    let runs: [&[&str]; 8] = [
         &["no/such/file"],
-        &[],
+        &["--all"],
+        &["--picture", "no/such/folder/a.svg", &file],
         &["--what", &file],
         &["--say", "--text", &file],
         &["--picture"],

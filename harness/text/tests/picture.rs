@@ -1,10 +1,9 @@
-//! The pictures of all drills, from the lines that stand beside them; the program is not needed.
+//! The pictures of all drills, from the lines that they expect; the program is not needed.
 
 use std::collections::BTreeSet;
 use std::fs;
 use std::path::{Path, PathBuf};
 
-use text::expected::Expected;
 use text::picture::{draw, note, Sheet};
 use text::reading::Text;
 use text::record::Record;
@@ -41,8 +40,8 @@ impl Drill {
     fn of(name: &str, file: Vec<u8>) -> Drill {
         let source = Source::of(name, file).unwrap();
         let lines = match &source {
-            Source::Text(text) => expected(text),
-            Source::Bytes(_) => beside(name),
+            Source::Text(text) => text.expected(),
+            Source::Bytes(_) => panic!("{name} is no text"),
         };
         let name = name.to_string();
         Drill {
@@ -80,25 +79,6 @@ impl Drill {
             quiet: &play,
         })
     }
-}
-
-/// The lines that a text expects.
-fn expected(text: &Text) -> String {
-    let expected = text.lines.iter().filter_map(|line| line.expected.as_ref());
-    let lines = expected.flat_map(|expected| match expected {
-        Expected::Each(first, last, rest) => {
-            let lines = (*first..=*last).map(|number| format!("{number} {rest}\n"));
-            lines.collect()
-        }
-        other => vec![format!("{other}\n")],
-    });
-    lines.collect()
-}
-
-/// The lines in the file beside a drill in bytes.
-fn beside(name: &str) -> String {
-    let file = top().join("drills").join(name).with_extension("txt");
-    fs::read_to_string(file).unwrap()
 }
 
 /// All drills of `drills/`.
@@ -210,13 +190,13 @@ fn every_drill_is_drawn_well_formed_and_without_a_script() {
 
 #[test]
 fn words_are_escaped() {
-    let source = "# a <b> & \"c\" \u{1} <script>\nsettings short\ntick => 1 0 0 0 0 0 0\n";
-    let picture = Drill::of("<&\">", source.as_bytes().to_vec())
+    let source = "# a <b> & \"c\" <script>\nsettings short\ntick => 1 0 0 0 0 0 0\n";
+    let picture = Drill::of("<&\">\u{1}", source.as_bytes().to_vec())
         .draw()
         .unwrap();
     is_well_formed(&picture).unwrap();
-    assert!(picture.contains("a &lt;b&gt; &amp; &quot;c&quot; \u{fffd} &lt;script&gt;"));
-    assert!(picture.contains("<title>&lt;&amp;&quot;&gt;</title>"));
+    assert!(picture.contains("a &lt;b&gt; &amp; &quot;c&quot; &lt;script&gt;"));
+    assert!(picture.contains("<title>&lt;&amp;&quot;&gt;\u{fffd}</title>"));
 }
 
 #[test]
@@ -341,7 +321,7 @@ report east from 02-00-00-00-00-02 hop 5 => 2 0 0 0 0 1 0
 report west from 02-00-00-00-00-03 hop 1 => 3 0 0 0 0 2 0
 link east failed => 4 0 0 4 1 1 1
 ";
-    let printed = expected(&Text::read(source.as_bytes()).unwrap());
+    let printed = Text::read(source.as_bytes()).unwrap().expected();
     let ticks: String = (5..=204)
         .map(|number| format!("{number} 0 0 4 1 {} 0\n", u8::from(number < 204)))
         .collect();

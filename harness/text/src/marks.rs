@@ -1,0 +1,66 @@
+//! Marks in comments: what was worked out by hand, apart from any model.
+
+use crate::reading::{Line, Text};
+use crate::said::Said;
+
+/// Behind a record, anywhere in its comment: its whole line was worked out by hand.
+const BY_HAND: &str = "by hand";
+/// At the beginning of a comment on a line of its own: so were the results and replies of all lines.
+const RESULTS: &str = "results by hand";
+/// So was the number of all reports sent, which stands behind it.
+const REPORTS: &str = "reports by hand:";
+
+/// What is worked out by hand, though something else was printed.
+#[derive(Clone, Debug, PartialEq, Eq)]
+pub struct Kept {
+    /// The text's line, from 1.
+    pub line: usize,
+    /// What stands there.
+    pub stands: String,
+    /// What was printed.
+    pub printed: String,
+}
+
+/// Whether a line's expected line was worked out by hand.
+pub fn is_by_hand(line: &Line) -> bool {
+    line.run.is_some() && comment(line).contains(BY_HAND)
+}
+
+/// Whether all results and replies of a text were worked out by hand.
+pub fn results_by_hand(text: &Text) -> bool {
+    let alone = text.lines.iter().filter(|line| line.run.is_none());
+    alone
+        .map(comment)
+        .any(|comment| comment.starts_with(RESULTS))
+}
+
+/// Where a text has a number of reports that was worked out by hand, and another number was printed.
+pub fn reports_kept(text: &Text, printed: &str) -> Vec<Kept> {
+    let reports = reports(printed).to_string();
+    let alone = text.lines.iter().filter(|line| line.run.is_none());
+    let kept = alone.filter_map(|line| {
+        let comment = comment(line);
+        let stands = comment.strip_prefix(REPORTS)?.trim();
+        (stands != reports).then(|| Kept {
+            line: line.number,
+            stands: format!("{stands} reports"),
+            printed: format!("{reports} reports"),
+        })
+    });
+    kept.collect()
+}
+
+/// A line's comment in small letters, without what begins it.
+fn comment(line: &Line) -> String {
+    let comment = line.comment.as_deref().unwrap_or("");
+    comment.trim_start_matches('#').trim().to_lowercase()
+}
+
+/// The reports written in all lines.
+fn reports(printed: &str) -> u64 {
+    let full = printed.lines().filter_map(|line| match Said::of(line)? {
+        Said::Line(_, answer) => answer.full().map(|full| u64::from(full.reports)),
+        Said::Settings(_) => None,
+    });
+    full.sum()
+}
