@@ -13,8 +13,8 @@ use crate::program::{cannot, Program, Room};
 use crate::reading::MOST_BYTES;
 use crate::saying::say;
 use crate::source::{Source, WORKED};
-use crate::stations::without_operators;
-use crate::told::{play, Staged};
+use crate::stations::{follow, without_operators};
+use crate::told::{play, Play, Staged};
 use crate::writing;
 
 /// All is as expected.
@@ -121,9 +121,13 @@ fn say_it(
     errors: &mut dyn Write,
 ) -> Result<u8, String> {
     let bytes = source.bytes();
-    let printed = printed(&program(options)?, &bytes)?;
+    let program = program(options)?;
+    let printed = printed(&program, &bytes)?;
+    let played = play(&bytes, &printed);
+    // Who comes and goes is told only if it can be told rightly.
+    let stays = follow(&played, &without_requests(&program, &bytes, &played)?).unwrap_or_default();
     let mut written = Ok(());
-    say(&play(&bytes, &printed), &source.names(), &mut |row| {
+    say(&played, &source.names(), &stays, &mut |row| {
         written = output.write_all(row.as_bytes());
         written.is_ok()
     });
@@ -133,7 +137,15 @@ fn say_it(
     }
 }
 
-/// Draws the drill. The program runs once more without operators' requests if there are any.
+/// The same drill without operators' requests: the program runs once more, if there are any.
+fn without_requests(program: &Program, bytes: &[u8], played: &Play) -> Result<Play, String> {
+    match without_operators(played) {
+        same if same == bytes => Ok(played.clone()),
+        quiet => Ok(play(&quiet, &printed(program, &quiet)?)),
+    }
+}
+
+/// Draws the drill.
 fn picture(
     options: &Options,
     name: &str,
@@ -145,10 +157,7 @@ fn picture(
     let program = program(options)?;
     let lines = printed(&program, &bytes)?;
     let played = play(&bytes, &lines);
-    let quiet = match without_operators(&played) {
-        same if same == bytes => played.clone(),
-        quiet => play(&quiet, &printed(&program, &quiet)?),
-    };
+    let quiet = without_requests(&program, &bytes, &played)?;
     let file = Path::new(name).file_name();
     let drawn = draw(&Sheet {
         name: &file.unwrap_or_default().to_string_lossy(),

@@ -1,10 +1,13 @@
 //! Words beside each line: which record it was, what became of it, and where the node stands.
 
+use std::collections::BTreeMap;
+
 use crate::codes::{request, REPLIES};
 use crate::names::Names;
 use crate::record::Record;
 use crate::records::{Report, Settings};
 use crate::said::{Answer, Full, Said};
+use crate::stations::Stay;
 use crate::told::{Play, Told};
 use crate::writing::words;
 
@@ -14,11 +17,16 @@ struct Row([String; 4]);
 /// Cells wider than this do not widen their column.
 const WIDEST: usize = 66;
 
-/// The drill's lines with words beside them, one by one. Rows are made twice, so that a long drill needs no room for them.
-pub fn say(play: &Play, names: &Names, each: &mut dyn FnMut(&str) -> bool) {
+/// The drill's lines with words beside them, one by one; `stays` tells who comes and goes. Rows are made twice, so that a long drill needs no room for
+/// them.
+pub fn say(play: &Play, names: &Names, stays: &[Stay], each: &mut dyn FnMut(&str) -> bool) {
+    let moves = moves(stays, names);
     let rows = || {
         let told = play.told.iter().enumerate();
-        let rows = told.map(|(place, told)| row(told, place == 0, names));
+        let rows = told.map(|(place, told)| {
+            let moves = moves.get(&place).map_or("", String::as_str);
+            row(told, place == 0, moves, names)
+        });
         let beyond = play.beyond.iter().map(|line| {
             let record = "no record".to_string();
             Row([line.clone(), record, String::new(), String::new()])
@@ -43,6 +51,19 @@ pub fn say(play: &Play, names: &Names, each: &mut dyn FnMut(&str) -> bool) {
     }
 }
 
+/// Who joins and who leaves with each record.
+fn moves(stays: &[Stay], names: &Names) -> BTreeMap<usize, String> {
+    let mut moves = BTreeMap::<usize, String>::new();
+    for stay in stays {
+        let name = names.of(stay.address);
+        *moves.entry(stay.from).or_default() += &format!(", {name} joins");
+        if let Some(to) = stay.to {
+            *moves.entry(to).or_default() += &format!(", {name} leaves");
+        }
+    }
+    moves
+}
+
 impl Row {
     fn text(&self, [one, two, three]: [usize; 3]) -> String {
         let [line, record, result, stand] = &self.0;
@@ -52,7 +73,7 @@ impl Row {
     }
 }
 
-fn row(told: &Told, is_first: bool, names: &Names) -> Row {
+fn row(told: &Told, is_first: bool, moves: &str, names: &Names) -> Row {
     let line = told.line.clone().unwrap_or_default();
     let record = words(&told.record, names);
     let said = told.line.as_deref().map(Said::of);
@@ -64,7 +85,7 @@ fn row(told: &Told, is_first: bool, names: &Names) -> Row {
         (Some(Some(Said::Settings(refusal))), _) => (refused_settings(refusal), String::new()),
         (Some(Some(Said::Line(_, answer))), record) => answered(&answer, record),
     };
-    Row([line, record, result, stand])
+    Row([line, record, result, stand + moves])
 }
 
 fn answered(answer: &Answer, record: &Record) -> (String, String) {
@@ -189,12 +210,15 @@ fn stand(full: &Full) -> String {
 mod tests {
     use super::*;
     use crate::reading::Text;
+    use crate::stations::follow;
     use crate::told::play;
 
     fn said(source: &str, printed: &str) -> String {
         let text = Text::read(source.as_bytes()).unwrap();
+        let play = play(&text.bytes(), printed);
+        let stays = follow(&play, &play).unwrap_or_default();
         let mut said = String::new();
-        say(&play(&text.bytes(), printed), &text.names, &mut |row| {
+        say(&play, &text.names, &stays, &mut |row| {
             said += row;
             true
         });
@@ -347,6 +371,19 @@ mod tests {
         ] {
             let said = said("tick\n", &format!("settings {refusal}\n"));
             assert!(said.contains(words) && said.contains(&format!("({refusal}): the drill ends")));
+        }
+    }
+
+    #[test]
+    fn who_joins_and_leaves_is_told() {
+        let source = "name B 02-00-00-00-00-02\nname C 02-00-00-00-00-03\nsettings short\nreport west from B hop 1\nreport west from C hop 1\nlink west failed\n";
+        let said = said(source, "1 0 0 0 0 1 0\n2 0 0 0 0 1 0\n3 0 4 0 1 0 1\n");
+        for words in [
+            "1 station, B joins\n",
+            "1 station, B leaves, C joins\n",
+            "report 1 sent, C leaves\n",
+        ] {
+            assert!(said.contains(words), "{words}\n{said}");
         }
     }
 
