@@ -206,4 +206,30 @@ mod tests {
         let (found, _) = check("settings short\ntick 2\n");
         assert_eq!(found.len(), 2, "lines beyond the drill");
     }
+
+    #[test]
+    fn fields_that_differ_are_named() {
+        let cases = [
+            ("1 0 0 0 0 0 0", "number"),
+            ("2 3 0 0 0 0 0", "result"),
+            ("2 0 4 0 0 0 0", "west"),
+            ("2 0 0 4 0 0 0", "east"),
+            ("2 0 0 0 1 0 0", "sequence"),
+            ("2 0 0 0 0 63 0", "stations"),
+            ("2 0 0 0 0 0 1", "report"),
+            ("2 22 3 0 1 0 1", "result, west, sequence, report"),
+        ];
+        for (expected, fields) in cases {
+            let (found, _) = check(&format!(
+                "settings short\ntick 2 => {expected}\ntick\nway 00-00-00-00-00-00\n"
+            ));
+            let shown = Table(&found).to_string();
+            assert!(
+                shown.ends_with(&format!("   tick (differs in {fields})")),
+                "{shown}"
+            );
+        }
+        let (found, _) = check("settings short\ntick 3\nway 00-00-00-00-00-00 => 4 way 0\n");
+        assert!(Table(&found).to_string().ends_with("(differs in reply)"));
+    }
 }

@@ -239,136 +239,53 @@ mod tests {
         }
     }
 
+    /// A record with its line, and what is said of it.
+    const WORDS: &str = "\
+tick => 1 0 0 0 0 0 0 | taken (0)
+attributes west from 02-00-00-00-00-02 => 1 0 0 0 0 1 0 | taken (0): attributes replaced
+bytes 02 00 63 00 => 1 3 0 0 0 0 0 | not an event (3): refused
+link 2 good => 1 4 0 0 0 0 0 | span above 1 (4): refused
+link west 3 => 1 4 0 0 0 0 0 | unknown status (4): refused
+operator west sf => 1 4 0 0 0 0 0 | unknown operator request (4): refused
+report west from 02-00-00-00-00-02 hop 1 ringlet 2 => 1 4 0 0 0 0 0 | ringlet above 1 (4): refused
+report west from 02-00-00-00-00-02 ttl 0 => 1 4 0 0 0 0 0 | TTL 0 (4): refused
+report west from 03-00-00-00-00-02 hop 1 => 1 4 0 0 0 0 0 | odd first address byte (4): refused
+report west from 02-00-00-00-00-02 hop 1 6 0 => 1 4 0 0 0 0 0 | reported request above 5 (4): refused
+attributes east from 03-00-00-00-00-02 => 1 4 0 0 0 0 0 | odd first address byte (4): refused
+bytes 03 00 01 00 00 => 1 4 0 0 0 0 0 | wrong body length (4): refused
+report west from 02-00-00-00-00-02 hop 1 => 1 5 0 0 0 0 0 | own address heard (5): refused
+report west from 02-00-00-00-00-02 hop 64 => 1 6 0 0 0 0 0 | hop above 63 (6): refused
+attributes east from 02-00-00-00-00-02 => 1 7 0 0 0 0 0 | attributes of a station not in the table (7): refused
+attributes east from 02-00-00-00-00-02 => 1 8 0 0 0 1 0 | block malformed (8): refused
+report west from 02-00-00-00-00-02 hop 2 ringlet 1 => 1 20 0 0 0 0 0 | wrong ringlet (20): nothing stored
+report west from 02-00-00-00-00-02 hop 1 ringlet 1 => 1 20 4 0 1 0 1 | wrong ringlet (20): nothing stored, cable mark set
+report west from 02-00-00-00-00-02 hop 1 => 1 21 4 0 1 0 0 | span down (21): nothing stored
+report west from 02-00-00-00-00-02 hop 1 => 1 22 0 0 0 1 0 | old report (22): nothing stored
+report west from 02-00-00-00-00-02 hop 1 => 1 23 0 0 0 63 0 | no place (23): nothing stored
+attributes west from 02-00-00-00-00-02 => 1 24 0 0 0 1 0 | block set aside (24): the station is behind
+way 02-00-00-00-00-02 => 1 way 0 | west (0)
+way 02-00-00-00-00-02 => 1 way 1 | east (1)
+way 02-00-00-00-00-02 => 1 way 2 | no way (2)
+way 02-00-00-00-00-02 => 1 way 3 | not in the table (3)
+way 03-00-00-00-00-02 => 1 4 | wrong length or odd address (4): not answered
+bytes 00 00 => 1 2 | cut, or a length outside 2 to 1,033 (2): the drill ends
+";
+
     #[test]
     fn every_number_has_its_words() {
-        let report = "report west from 02-00-00-00-00-02 hop";
-        let cases = [
-            ("tick", "0 0 0 0 0 0", "taken (0)"),
-            (
-                "attributes west from 02-00-00-00-00-02",
-                "0 0 0 0 1 0",
-                "taken (0): attributes replaced",
-            ),
-            (
-                "bytes 02 00 63 00",
-                "3 0 0 0 0 0",
-                "not an event (3): refused",
-            ),
-            ("link 2 good", "4 0 0 0 0 0", "span above 1 (4): refused"),
-            ("link west 3", "4 0 0 0 0 0", "unknown status (4): refused"),
-            (
-                "operator west sf",
-                "4 0 0 0 0 0",
-                "unknown operator request (4): refused",
-            ),
-            (
-                &format!("{report} 1 ringlet 2"),
-                "4 0 0 0 0 0",
-                "ringlet above 1 (4): refused",
-            ),
-            (
-                "report west from 02-00-00-00-00-02 ttl 0",
-                "4 0 0 0 0 0",
-                "TTL 0 (4): refused",
-            ),
-            (
-                "report west from 03-00-00-00-00-02 hop 1",
-                "4 0 0 0 0 0",
-                "odd first address byte (4): refused",
-            ),
-            (
-                &format!("{report} 1 6 0"),
-                "4 0 0 0 0 0",
-                "reported request above 5 (4): refused",
-            ),
-            (
-                "attributes east from 03-00-00-00-00-02",
-                "4 0 0 0 0 0",
-                "odd first address byte (4): refused",
-            ),
-            (
-                "bytes 03 00 01 00 00",
-                "4 0 0 0 0 0",
-                "wrong body length (4): refused",
-            ),
-            (
-                &format!("{report} 1"),
-                "5 0 0 0 0 0",
-                "own address heard (5): refused",
-            ),
-            (
-                &format!("{report} 64"),
-                "6 0 0 0 0 0",
-                "hop above 63 (6): refused",
-            ),
-            (
-                "attributes east from 02-00-00-00-00-02",
-                "7 0 0 0 0 0",
-                "attributes of a station not in the table (7): refused",
-            ),
-            (
-                "attributes east from 02-00-00-00-00-02",
-                "8 0 0 0 1 0",
-                "block malformed (8): refused",
-            ),
-            (
-                &format!("{report} 2 ringlet 1"),
-                "20 0 0 0 0 0",
-                "wrong ringlet (20): nothing stored",
-            ),
-            (
-                &format!("{report} 1 ringlet 1"),
-                "20 4 0 1 0 1",
-                "wrong ringlet (20): nothing stored, cable mark set",
-            ),
-            (
-                &format!("{report} 1"),
-                "21 4 0 1 0 0",
-                "span down (21): nothing stored",
-            ),
-            (
-                &format!("{report} 1"),
-                "22 0 0 0 1 0",
-                "old report (22): nothing stored",
-            ),
-            (
-                &format!("{report} 1"),
-                "23 0 0 0 63 0",
-                "no place (23): nothing stored",
-            ),
-            (
-                "attributes west from 02-00-00-00-00-02",
-                "24 0 0 0 1 0",
-                "block set aside (24): the station is behind",
-            ),
-            ("way 02-00-00-00-00-02", "way 0", "west (0)"),
-            ("way 02-00-00-00-00-02", "way 1", "east (1)"),
-            ("way 02-00-00-00-00-02", "way 2", "no way (2)"),
-            ("way 02-00-00-00-00-02", "way 3", "not in the table (3)"),
-            (
-                "way 03-00-00-00-00-02",
-                "4",
-                "wrong length or odd address (4): not answered",
-            ),
-            (
-                "bytes 00 00",
-                "2",
-                "cut, or a length outside 2 to 1,033 (2): the drill ends",
-            ),
-        ];
-        for (record, line, words) in cases {
-            let said = said(
-                &format!("settings short\n{record}\n"),
-                &format!("1 {line}\n"),
-            );
+        for row in WORDS.lines() {
+            let (record, words) = row.split_once(" | ").unwrap();
+            let (_, line) = record.split_once(" => ").unwrap();
+            let said = said(&format!("settings short\n{record}\n"), &format!("{line}\n"));
             let row = said.lines().nth(1).unwrap();
             assert_eq!(row.split('|').nth(2).unwrap().trim(), words, "{row}");
         }
-        for (refusal, words) in [
+        let refusals = [
             (2, "cut, empty"),
             (3, "not a settings record"),
             (4, "wrong length"),
-        ] {
+        ];
+        for (refusal, words) in refusals {
             let said = said("tick\n", &format!("settings {refusal}\n"));
             assert!(said.contains(words) && said.contains(&format!("({refusal}): the drill ends")));
         }

@@ -1,8 +1,10 @@
 //! The program as a whole: what it prints and its exit status, with a program in the drill's place that says fixed lines.
 
 use std::fs;
+use std::io::{self, ErrorKind, Write};
 use std::process::{Command, Output};
 
+use text::command::perform;
 use text::program::Room;
 
 const TEXT: &str = env!("CARGO_BIN_EXE_text");
@@ -233,7 +235,7 @@ fn what_comes_before_must_end_well_and_follows_the_reading() {
 }
 
 #[test]
-fn standard_input_is_a_file_and_closed_output_no_trouble() {
+fn standard_input_is_a_file() {
     let place = Place::new("input");
     let run = |content: &str, arguments: &str| {
         let file = place.file("input", content);
@@ -248,9 +250,30 @@ fn standard_input_is_a_file_and_closed_output_no_trouble() {
     assert!(run("tock\n", "")
         .2
         .starts_with("drill: standard input, line 1: 'tock' stands"));
-    let line = format!("({TEXT} --help; echo $? >&2) | true");
-    let many = Command::new("sh").args(["-c", &line]).output().unwrap();
-    assert_eq!(output(&many).2, "0\n");
+}
+
+/// Somebody who cannot be written to, for this reason.
+struct Deaf(ErrorKind);
+
+impl Write for Deaf {
+    fn write(&mut self, _: &[u8]) -> io::Result<usize> {
+        Err(self.0.into())
+    }
+
+    fn flush(&mut self) -> io::Result<()> {
+        Ok(())
+    }
+}
+
+#[test]
+fn one_who_has_read_enough_is_no_trouble() {
+    for (reason, wanted) in [(ErrorKind::BrokenPipe, 0), (ErrorKind::StorageFull, 2)] {
+        for task in ["--help", "--text", "--bytes"] {
+            let mut errors = Vec::new();
+            let status = perform([task.to_string()], &mut Deaf(reason), &mut errors);
+            assert_eq!((status, errors.is_empty()), (wanted, wanted == 0), "{task}");
+        }
+    }
 }
 
 #[test]
