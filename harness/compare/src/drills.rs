@@ -108,9 +108,14 @@ fn last_record(m: &mut Maker) -> Bytes {
 mod tests {
     use std::thread;
 
+    use model::drill::say;
+    use model::faults::RIGHT;
+    use model::Node;
     use text::reading::Text;
     use text::record::Record;
     use text::source::is_bytes;
+    use text::stations::{follow, without_operators, Stay};
+    use text::told::play;
     use text::writing;
 
     use super::*;
@@ -142,6 +147,51 @@ mod tests {
             scope.spawn(|| (1..=5_000).for_each(same_text));
             (5_001..=10_000).for_each(same_text);
         });
+    }
+
+    /// The stations and hops that a picture shows at a place.
+    fn shown(stays: &[Stay], place: usize) -> Vec<(u64, [u8; 2])> {
+        let there = stays
+            .iter()
+            .filter(|stay| stay.from <= place && stay.to.is_none_or(|to| place < to));
+        let last = |stay: &Stay| {
+            stay.hops
+                .iter()
+                .rev()
+                .find(|&&(from, _)| from <= place)
+                .copied()
+        };
+        there
+            .filter_map(|stay| Some((stay.address, last(stay)?.1)))
+            .collect()
+    }
+
+    fn same_stations(seed: u64) {
+        let told = |bytes: &[u8]| play(bytes, &String::from_utf8(say::<RIGHT>(bytes)).unwrap());
+        let played = told(&Drill::of(seed).bytes());
+        let quiet = told(&without_operators(&played));
+        let stays = follow(&played, &quiet).unwrap();
+        let first = played
+            .told
+            .first()
+            .map_or(Vec::new(), |told| told.record.bytes());
+        let (_, mut node) = Node::start(&first);
+        for (place, told) in played.told.iter().enumerate().skip(1) {
+            if told.line.is_none() {
+                return;
+            }
+            node.record(&told.record.bytes(), &mut [0; 7]);
+            assert_eq!(
+                shown(&stays, place),
+                node.hops(),
+                "seed {seed}, line {place}"
+            );
+        }
+    }
+
+    #[test]
+    fn the_stations_that_a_picture_shows_are_those_of_the_model() {
+        (1..=200).for_each(same_stations);
     }
 
     #[test]

@@ -238,4 +238,12 @@ impl<const F: u8> NodeOf<F> {
     pub fn station_count(&self) -> usize {
         self.table.stations().len()
     }
+
+    /// The stations in the table, each with its hops on both ringlets, by address.
+    pub fn hops(&self) -> Vec<(u64, [u8; 2])> {
+        let stations = self.table.stations().iter();
+        stations
+            .map(|station| (station.address, station.hops))
+            .collect()
+    }
 }
