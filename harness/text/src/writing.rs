@@ -91,10 +91,7 @@ fn full(settings: &Settings, names: &Names) -> String {
 }
 
 fn heard(report: &Report, names: &Names) -> String {
-    let place = match report.ttl {
-        0 => "ttl 0".to_string(),
-        ttl => format!("hop {}", 256 - u16::from(ttl)),
-    };
+    let place = place(report.ttl);
     let ringlet = if report.ringlet == report.span {
         String::new()
     } else {
@@ -104,6 +101,14 @@ fn heard(report: &Report, names: &Names) -> String {
     let (span, from) = (word(SPANS, report.span), names.of(report.address));
     let sequence = report.sequence;
     format!("report {span} from {from} {place}{ringlet} sequence {sequence} {west} {east}")
+}
+
+/// A TTL as the hop that it tells, if it tells one.
+pub fn place(ttl: u8) -> String {
+    match ttl {
+        0 => "ttl 0".to_string(),
+        ttl => format!("hop {}", 256 - u16::from(ttl)),
+    }
 }
 
 /// A block as its entries, if they all have words, else as bytes.

@@ -7,6 +7,7 @@ use crate::hex;
 use crate::names::Names;
 use crate::record::Record;
 use crate::records::{wire, Report};
+use crate::writing::place;
 
 use super::letters::fit;
 use super::steps::Step;
@@ -110,10 +111,7 @@ pub fn label(step: &Step, tags: &Tags) -> String {
 
 fn heard(report: &Report, tags: &Tags) -> String {
     let (span, from) = (word(SPANS, report.span), tags.short(report.address));
-    let place = match report.ttl {
-        0 => "ttl 0".to_string(),
-        ttl => format!("hop {}", 256 - u16::from(ttl)),
-    };
+    let place = place(report.ttl);
     let mut words = format!("report {span} {from} {place} seq {}", report.sequence);
     if report.ringlet != report.span {
         words += &format!(" ringlet {}", report.ringlet);
