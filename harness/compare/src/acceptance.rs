@@ -50,9 +50,23 @@ fn accept_one(name: &str, text: &Text) -> Result<bool, String> {
     }
     let path = Path::new(name);
     let before = fs::read(path).map_err(|error| cannot("read", path, &error))?;
-    if before != accepted.source.as_bytes() {
-        fs::write(path, &accepted.source).map_err(|error| cannot("write", path, &error))?;
+    let after = as_before(&before, accepted.source);
+    if before != after.as_bytes() {
+        fs::write(path, &after).map_err(|error| cannot("write", path, &error))?;
         tell(format!("{name}: written"));
     }
     Ok(accepted.kept.is_empty())
+}
+
+/// Lines end as they did, and the mark that some editors put before a text stays.
+fn as_before(before: &[u8], source: String) -> String {
+    let source = if before.windows(2).any(|pair| pair == b"\r\n") {
+        source.replace('\n', "\r\n")
+    } else {
+        source
+    };
+    match before.starts_with("\u{feff}".as_bytes()) {
+        true => format!("\u{feff}{source}"),
+        false => source,
+    }
 }

@@ -115,6 +115,10 @@ tick              => 4 0 4 4 2 0 1
         said(&output).contains("line 3: by hand '1 0 3 0 1 0 1', the model says '1 0 4 0 1 0 1'")
     );
     assert_eq!(fs::read_to_string(&file).unwrap(), by_hand);
+    let windows = format!("\u{feff}{}", wanted.replace('\n', "\r\n"));
+    fs::write(&file, &windows).unwrap();
+    assert_eq!(accept().status.code(), Some(0));
+    assert_eq!(fs::read_to_string(&file).unwrap(), windows);
     for content in [&b"tock\n"[..], &[2, 0, 1, 0]] {
         fs::write(&file, content).unwrap();
         assert_eq!(accept().status.code(), Some(2));

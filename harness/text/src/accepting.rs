@@ -21,6 +21,7 @@ pub struct Accepted {
 
 /// One line of the new text.
 struct Row {
+    indent: String,
     words: String,
     expected: Option<Expected>,
     comment: Option<String>,
@@ -34,13 +35,15 @@ pub fn accept(text: &Text, printed: &str) -> Accepted {
     let mut rows = Vec::new();
     for (place, line) in text.lines.iter().enumerate() {
         let told = staged.line(place);
-        // What is worked out by hand is not parted, nor are bytes that are not whole records.
-        let new = if is_by_hand(line) || !staged.is_tiled(place) {
-            vec![alone(line, last(line, told))]
+        let stays = stays_whole(line, staged.is_tiled(place));
+        let new = if stays {
+            vec![alone(line, whole(line, told))]
         } else {
             rows_of(line, told)
         };
-        match by_hand(line, &new, results) {
+        let marked = results || is_by_hand(line);
+        let unsayable = (stays && marked).then(|| unsayable(line, told)).flatten();
+        match unsayable.or_else(|| by_hand(line, &new, results)) {
             None => rows.extend(new),
             Some(one) => {
                 kept.push(one);
@@ -72,27 +75,60 @@ impl Row {
             let gap = if text.is_empty() { "" } else { "  " };
             text = format!("{text}{gap}{comment}");
         }
-        text + "\n"
+        let indent = if text.is_empty() { "" } else { &self.indent };
+        format!("{indent}{text}\n")
     }
 }
 
 /// The line as it is, with what is expected of it.
 fn alone(line: &Line, expected: Option<Expected>) -> Row {
     Row {
+        indent: line.indent.clone(),
         words: line.words.clone(),
         expected,
         comment: line.comment.clone(),
     }
 }
 
-/// What is to be expected of a line that is not parted: all of its lines if they are alike and were expected so, else the last.
-fn last(line: &Line, told: &[Told]) -> Option<Expected> {
+/// What is worked out by hand is not parted, nor a run of which only the last line is expected, nor bytes that are not whole records.
+fn stays_whole(line: &Line, is_tiled: bool) -> bool {
+    let last_alone = matches!(line.expected, Some(Expected::Last(..)));
+    is_by_hand(line) || last_alone || !is_tiled
+}
+
+fn is_alike(told: &[Told]) -> bool {
+    told.windows(2).all(|pair| rest(&pair[0]) == rest(&pair[1]))
+}
+
+/// What is to be expected of a line that is not parted: the last line if that was expected, else all if they are alike.
+fn whole(line: &Line, told: &[Told]) -> Option<Expected> {
     let all: Vec<&Told> = told.iter().collect();
-    let alike = all.windows(2).all(|pair| rest(pair[0]) == rest(pair[1]));
     match &line.expected {
-        Some(Expected::Each(..)) if alike => expected(&all),
-        _ => expected(&[told.iter().rev().find(|told| told.line.is_some())?]),
+        Some(Expected::Last(..)) => {
+            expected(&[told.iter().rev().find(|told| told.line.is_some())?])
+        }
+        _ if is_alike(told) => expected(&all),
+        _ => expected(&[told.last()?]),
     }
+}
+
+/// Lines that were expected to be alike, are not, and have to stay in one line of the text.
+fn unsayable(line: &Line, told: &[Told]) -> Option<Kept> {
+    let Some(old @ Expected::Each(..)) = &line.expected else {
+        return None;
+    };
+    if is_alike(told) {
+        return None;
+    }
+    let other = told
+        .iter()
+        .find(|told| rest(told).as_deref() != Some(old.rest()));
+    let printed = other.and_then(|told| told.line.clone());
+    Some(Kept {
+        line: line.number,
+        stands: old.to_string(),
+        printed: printed.unwrap_or("nothing".to_string()),
+    })
 }
 
 /// The rows of a line: one, or as many as a run needs so that all of its lines are told.
@@ -111,6 +147,7 @@ fn rows_of(line: &Line, told: &[Told]) -> Vec<Row> {
         return vec![alone(line, expected(&group))];
     }
     let rows = groups.iter().enumerate().map(|(place, group)| Row {
+        indent: line.indent.clone(),
         words: group_words(group, every),
         expected: expected(&group.iter().collect::<Vec<_>>()),
         comment: line.comment.clone().filter(|_| place == 0),
@@ -200,10 +237,11 @@ fn by_hand(line: &Line, rows: &[Row], results: bool) -> Option<Kept> {
     let whole = is_by_hand(line);
     let differs = |new: &Option<&Expected>| match (old, new) {
         (None, None) => false,
-        (None, Some(_)) => whole,
-        (Some(_), None) => whole || results,
+        (None, Some(_)) | (Some(_), None) => whole || results,
         (Some(old), Some(new)) => {
-            whole && old.rest() != new.rest() || results && result(old) != result(new)
+            let other = is_settings(old) != is_settings(new);
+            whole && (other || old.rest() != new.rest())
+                || results && (other || result(old) != result(new))
         }
     };
     let printed = new.find(differs)?;
@@ -213,6 +251,10 @@ fn by_hand(line: &Line, rows: &[Row], results: bool) -> Option<Kept> {
         stands: said(old),
         printed: said(printed),
     })
+}
+
+fn is_settings(expected: &Expected) -> bool {
+    matches!(expected, Expected::Settings(_))
 }
 
 /// The result of a line, or the reply with the word before it.
@@ -326,6 +368,71 @@ tick 1 keepalive 2  => 9..11 0 0 0 0 0 0
     }
 
     #[test]
+    fn a_run_of_which_the_last_line_is_expected_is_not_parted() {
+        let printed = "1 0 0 0 0 0 0\n2 0 4 0 0 0 1\n3 0 4 0 0 0 0\n";
+        let source = "settings short\ntick 3 => 3 0 0 0 0 0 0\n";
+        let wanted = "settings short\ntick 3  => 3 0 4 0 0 0 0\n";
+        assert_eq!(accepted(source, printed), (wanted.to_string(), 0));
+    }
+
+    #[test]
+    fn a_middle_line_that_differs_is_told() {
+        let printed = "1 0 0 0 0 0 0\n2 0 0 0 0 0 1\n3 0 0 0 0 0 0\n";
+        let source = "settings short\ntick 3  => 1..3 0 0 0 0 0 0  # by hand\n";
+        assert_eq!(accepted(source, printed), (source.to_string(), 1));
+        let source =
+            "# results by hand\nsettings short\nbytes 02 00 63 00 02  => 1..2 2\nbytes 00\n";
+        assert_eq!(
+            accepted(source, "1 3 0 0 0 0 0\n2 2\n"),
+            (source.to_string(), 1)
+        );
+    }
+
+    #[test]
+    fn results_by_hand_are_those_of_every_line() {
+        let head = "# results by hand\nsettings short\n";
+        let kept = |lines: &str, printed: &str| accepted(&format!("{head}{lines}"), printed).1;
+        assert_eq!(kept("way 00-00-00-00-00-00 => 1 way 3\n", "1 way 3\n"), 0);
+        assert_eq!(kept("way 00-00-00-00-00-00 => 1 way 3\n", "1 way 2\n"), 1);
+        assert_eq!(kept("tick => 1 0 0 0 0 0 0\n", ""), 1, "nothing is printed");
+        assert_eq!(kept("tick\n", "1 0 0 0 0 0 0\n"), 1, "no line by hand");
+        assert_eq!(
+            kept(
+                "tick 2 => 1..2 0 0 0 0 0 0\n",
+                "1 3 0 0 0 0 0\n2 0 0 0 0 0 1\n"
+            ),
+            1
+        );
+        assert_eq!(
+            kept(
+                "tick 2 => 1..2 0 0 0 0 0 0\n",
+                "1 0 0 0 0 0 0\n2 0 0 0 0 0 1\n"
+            ),
+            0
+        );
+        let source = "settings => settings 2 # by hand\n";
+        assert_eq!(accepted(source, "settings 2\n").1, 0);
+        let source = "settings short\nbytes 00 00 => settings 2 # by hand\n";
+        assert_eq!(accepted(source, "1 2\n").1, 1);
+    }
+
+    #[test]
+    fn what_is_no_tick_is_said_one_by_one() {
+        let source = "settings short\nbytes 03 00 03 00 00 03 00 03 00 00\n";
+        let (text, _) = accepted(source, "1 0 0 0 0 0 0\n2 0 0 0 0 0 0\n");
+        assert!(
+            text.ends_with("keepalive west  => 1 0 0 0 0 0 0\nkeepalive west  => 2 0 0 0 0 0 0\n"),
+            "{text}"
+        );
+    }
+
+    #[test]
+    fn blanks_at_the_beginning_stay() {
+        let source = "# a\n  # b\nsettings short\n\ttick  => 1 0 0 0 0 0 0\n\n";
+        assert_eq!(accepted(source, "1 0 0 0 0 0 0\n").0, source);
+    }
+
+    #[test]
     fn a_line_that_is_no_longer_printed_is_told() {
         let source =
             "settings short\nbytes 00 00\ntick => 2 0 0 0 0 0 0 # by hand\ntick => 3 0 0 0 0 0 0\n";
@@ -342,6 +449,13 @@ tick 1 keepalive 2  => 9..11 0 0 0 0 0 0
         let printed = "1 0 0 0 0 0 0\n2 0 0 0 0 0 1\n3 0 0 0 0 0 0\n";
         let wanted = "settings short\nbytes 02 00 01 00 02 00  => 2 0 0 0 0 0 1\nbytes 01 00 02 00 01 00  => 3 0 0 0 0 0 0\n";
         assert_eq!(accepted(source, printed).0, wanted);
+        let source =
+            "settings short\nbytes 02 00 01 00 02 00\nbytes 01 00 04 00 02 00\nbytes 00 00\n";
+        let wanted = "settings short\nbytes 02 00 01 00 02 00  => 1..2 0 0 0 0 0 0\nbytes 01 00 04 00 02 00  => 3 0 0 0 0 0 0\nbytes 00 00\n";
+        assert_eq!(
+            accepted(source, "1 0 0 0 0 0 0\n2 0 0 0 0 0 0\n3 0 0 0 0 0 0\n").0,
+            wanted
+        );
         let source = "settings short\nbytes 02 00 01 00 03 00 01 00 00\n";
         let wanted = "settings short\ntick                  => 1 0 0 0 0 0 0\nbytes 03 00 01 00 00  => 2 4 0 0 0 0 0\n";
         assert_eq!(accepted(source, "1 0 0 0 0 0 0\n2 4 0 0 0 0 0\n").0, wanted);

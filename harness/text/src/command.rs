@@ -7,11 +7,13 @@ use std::process::Command;
 
 use crate::checking::{mismatches, Table};
 use crate::many::run_all;
+use crate::marks::reports_kept;
 use crate::options::{Options, Task, USAGE};
 use crate::picture::{draw, note, Sheet};
 use crate::program::{cannot, Program, Room};
-use crate::reading::MOST_BYTES;
-use crate::saying::say;
+use crate::reading::{Text, MOST_BYTES};
+use crate::said::Said;
+use crate::saying::{refused_settings, say};
 use crate::source::{Source, WORKED};
 use crate::stations::{follow, without_operators};
 use crate::told::{play, Play, Staged};
@@ -59,6 +61,7 @@ fn task(options: &Options, output: &mut dyn Write, errors: &mut dyn Write) -> Re
 /// The drill that was asked for, with its name.
 fn drill(options: &Options) -> Result<(String, Source), String> {
     match options.files.first() {
+        Some(name) if name == "-" => Ok(("standard input".to_string(), Source::read(name)?)),
         Some(name) => Ok((name.clone(), Source::read(name)?)),
         None => Ok((
             "worked.drill".to_string(),
@@ -87,14 +90,14 @@ fn program(options: &Options) -> Result<Program, String> {
     Program::find(options.drill.as_deref())
 }
 
-/// Prints the program's lines as they come.
+/// Prints the program's lines as they come. They are kept as well if there is something to check, and then read to the end, whoever still listens.
 fn run(
     options: &Options,
     source: &Source,
     output: &mut dyn Write,
     errors: &mut dyn Write,
 ) -> Result<u8, String> {
-    let is_checked = matches!(source, Source::Text(text) if text.lines.iter().any(|line| line.expected.is_some()));
+    let is_checked = matches!(source, Source::Text(_));
     let mut printed = Vec::new();
     let mut written = Ok(());
     let room = Room::new("drill")?;
@@ -102,14 +105,17 @@ fn run(
         if is_checked {
             printed.extend(lines);
         }
-        written = output.write_all(lines).and_then(|()| output.flush());
-        written.is_ok()
+        if written.is_ok() {
+            written = output.write_all(lines).and_then(|()| output.flush());
+        }
+        is_checked || written.is_ok()
     })?;
-    match (written, ended) {
-        (Err(error), _) => stopped_listening(&error),
-        (_, Some(ended)) => Err(format!("the program ended badly: {ended}")),
-        _ if is_checked => check(source, &String::from_utf8_lossy(&printed), errors),
-        _ => Ok(GOOD),
+    if let Err(error) = written {
+        stopped_listening(&error)?;
+    }
+    match ended {
+        Some(ended) => Err(format!("the program ended badly: {ended}")),
+        None => check(source, &String::from_utf8_lossy(&printed), errors),
     }
 }
 
@@ -131,10 +137,10 @@ fn say_it(
         written = output.write_all(row.as_bytes());
         written.is_ok()
     });
-    match written {
-        Ok(()) => check(source, &printed, errors),
-        Err(error) => stopped_listening(&error),
+    if let Err(error) = written {
+        stopped_listening(&error)?;
     }
+    check(source, &printed, errors)
 }
 
 /// The same drill without operators' requests: the program runs once more, if there are any.
@@ -176,16 +182,42 @@ fn check(source: &Source, printed: &str, errors: &mut dyn Write) -> Result<u8, S
         return Ok(GOOD);
     };
     let found = mismatches(text, &Staged::of(text, printed));
-    if found.is_empty() {
-        return Ok(GOOD);
+    let reports = reports_kept(text, printed);
+    if found.is_empty() && reports.is_empty() {
+        return tell_refused(text, printed, errors);
     }
-    let lines = if found.len() == 1 { "line" } else { "lines" };
-    let head = format!(
-        "drill: not as expected in {} {lines} of the text",
-        found.len()
-    );
-    write(errors, format!("{head}\n{}\n", Table(&found)).as_bytes())?;
+    for kept in reports {
+        let told = format!(
+            "drill: line {}: {}, printed {}\n",
+            kept.line, kept.stands, kept.printed
+        );
+        write(errors, told.as_bytes())?;
+    }
+    if !found.is_empty() {
+        let lines = if found.len() == 1 { "line" } else { "lines" };
+        let head = format!(
+            "drill: not as expected in {} {lines} of the text",
+            found.len()
+        );
+        write(errors, format!("{head}\n{}\n", Table(&found)).as_bytes())?;
+    }
     Ok(DIFFERS)
+}
+
+/// One who forgot the settings, or mistook one, would wonder where the lines are.
+fn tell_refused(text: &Text, printed: &str, errors: &mut dyn Write) -> Result<u8, String> {
+    let refusal = printed.lines().next().and_then(Said::of);
+    let is_expected = text.lines.iter().any(|line| line.expected.is_some());
+    match refusal {
+        Some(Said::Settings(refusal)) if !is_expected => {
+            let why = refused_settings(refusal);
+            write(
+                errors,
+                format!("drill: settings refused: {why}\n").as_bytes(),
+            )
+        }
+        _ => Ok(GOOD),
+    }
 }
 
 /// All that the program prints for a drill.

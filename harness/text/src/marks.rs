@@ -41,6 +41,7 @@ pub fn reports_kept(text: &Text, printed: &str) -> Vec<Kept> {
     let kept = alone.filter_map(|line| {
         let comment = comment(line);
         let stands = comment.strip_prefix(REPORTS)?.trim();
+        let stands = stands.split_whitespace().next().unwrap_or("");
         (stands != reports).then(|| Kept {
             line: line.number,
             stands: format!("{stands} reports"),
@@ -63,4 +64,35 @@ fn reports(printed: &str) -> u64 {
         Said::Settings(_) => None,
     });
     full.sum()
+}
+
+#[cfg(test)]
+mod tests {
+    use super::*;
+
+    fn text(source: &str) -> Text {
+        Text::read(source.as_bytes()).unwrap()
+    }
+
+    #[test]
+    fn marks_are_found_in_any_spelling() {
+        for comment in ["# by hand", "#by hand", "## By hand", "# see 01; by hand"] {
+            let text = text(&format!("tick {comment}\n{comment}\n"));
+            assert!(is_by_hand(&text.lines[0]), "{comment}");
+            assert!(!is_by_hand(&text.lines[1]), "behind no record");
+        }
+        assert!(results_by_hand(&text(
+            "tick\n## Results by hand, all of them\n"
+        )));
+        assert!(!results_by_hand(&text(
+            "tick # results by hand\n# no results by hand\n"
+        )));
+        let printed = "1 0 0 0 0 0 1\n2 0 0 0 0 0 1\n3 way 1\nsettings 4\n";
+        assert!(reports_kept(&text("# reports by hand: 2 (both)\n"), printed).is_empty());
+        assert_eq!(
+            reports_kept(&text("tick\n#Reports by hand: 3\n"), printed)[0].line,
+            2
+        );
+        assert!(reports_kept(&text("tick # reports by hand: 3\n"), printed).is_empty());
+    }
 }

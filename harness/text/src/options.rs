@@ -75,13 +75,15 @@ impl Options {
         match &argument[..] {
             "--drill" => self.drill = Some(value()?),
             "--before" => self.before = Some(value()?),
-            "--picture" => self.choose(Task::Picture(value()?))?,
+            "--picture" => self.choose(Task::Picture(picture(value()?)?))?,
             "--say" => self.choose(Task::Say)?,
             "--text" => self.choose(Task::Text)?,
             "--bytes" => self.choose(Task::Bytes)?,
             "--all" => self.choose(Task::All)?,
             "--help" | "-h" => self.choose(Task::Help)?,
-            name if name.starts_with("--") => return Err(format!("{name} is not an option")),
+            name if name.starts_with('-') && name != "-" => {
+                return Err(format!("{name} is not an option"))
+            }
             _ => self.files.push(argument),
         }
         Ok(())
@@ -94,4 +96,14 @@ impl Options {
         self.task = task;
         Ok(())
     }
+}
+
+/// A drill that was named where the picture goes would be lost.
+fn picture(out: String) -> Result<String, String> {
+    if out.ends_with(".svg") {
+        return Ok(out);
+    }
+    Err(format!(
+        "--picture needs the name of a picture that ends in .svg, not '{out}'"
+    ))
 }

@@ -30,6 +30,8 @@ pub struct Text {
 pub struct Line {
     /// Its number, from 1.
     pub number: usize,
+    /// The blanks that it begins with.
+    pub indent: String,
     /// Its words as they are written, without '=>' and comment.
     pub words: String,
     /// The records that they stand for.
@@ -125,8 +127,10 @@ fn line_of(bytes: &[u8], names: &mut Names, left: &mut usize) -> Result<Line, Sl
         }
         Some(at) => Some(Expected::read(&mut Words::of(&said[at + 2..], at + 2))?),
     };
+    let blanks = source.len() - source.trim_start().len();
     Ok(Line {
         number: 0,
+        indent: source[..blanks].to_string(),
         words: words.trim().to_string(),
         run,
         expected,
@@ -146,7 +150,11 @@ fn letters(bytes: &[u8]) -> Result<&str, Slip> {
         let byte = bytes
             .get(at)
             .map_or(String::new(), |byte| format!("byte {byte:02X}"));
-        slip(at, byte, "a letter in UTF-8")
+        slip(
+            at,
+            byte,
+            "a letter in UTF-8 (a text in UTF-16 has to be saved as UTF-8)",
+        )
     })?;
     let is_odd = |letter: char| letter.is_control() && letter != '\t';
     match line.find(is_odd) {
@@ -166,7 +174,7 @@ fn run_of(words: &str, names: &mut Names, left: &mut usize) -> Result<Option<Run
     let mut words = Words::of(words, 0);
     let run = content(&mut words, names)?;
     words.end()?;
-    let bytes = run.as_ref().map_or(0, Run::most_bytes);
+    let bytes = run.as_ref().map_or(0, Run::length);
     match left.checked_sub(bytes) {
         Some(rest) => *left = rest,
         None => return Err(words.slip_back(TOO_LONG)),

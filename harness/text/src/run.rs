@@ -2,8 +2,8 @@
 
 use crate::record::Record;
 
-/// The bytes of the longest record whose length is fixed: settings.
-const LONGEST_FIXED: usize = 19;
+/// The bytes of a tick.
+const TICK: usize = 4;
 /// The bytes of two keepalives.
 const KEEPALIVES: usize = 10;
 
@@ -38,16 +38,14 @@ impl Run {
         })
     }
 
-    /// No fewer bytes than the run has.
-    pub fn most_bytes(&self) -> usize {
-        let one = match &self.record {
-            Record::Bytes(bytes) => bytes.len(),
-            Record::Attributes(_, _, block) => 11 + block.len(),
-            Record::Tick => 4,
-            _ => LONGEST_FIXED,
+    /// How many bytes the run has.
+    pub fn length(&self) -> usize {
+        let one = match self.record {
+            Record::Tick => TICK,
+            _ => self.record.bytes().len(),
         };
-        let times = usize::try_from(self.times).unwrap_or(usize::MAX);
-        let each = one + if self.alive.is_some() { KEEPALIVES } else { 0 };
-        times.saturating_mul(each)
+        let pairs = self.alive.map_or(0, |every| self.times.div_ceil(every));
+        let count = |number| usize::try_from(number).unwrap_or(usize::MAX);
+        count(self.times).saturating_mul(one) + count(pairs).saturating_mul(KEEPALIVES)
     }
 }

@@ -17,21 +17,19 @@ struct Row([String; 4]);
 /// Cells wider than this do not widen their column.
 const WIDEST: usize = 66;
 
-/// The drill's lines with words beside them, one by one; `stays` tells who comes and goes. Rows are made twice, so that a long drill needs no room for
-/// them.
+/// The drill's lines with words beside them, one by one; `stays` tells who comes and goes. Ticks and keepalives whose lines are alike but for the number
+/// are one row. Rows are made twice, so that a long drill needs no room for them.
 pub fn say(play: &Play, names: &Names, stays: &[Stay], each: &mut dyn FnMut(&str) -> bool) {
     let moves = moves(stays, names);
     let rows = || {
-        let told = play.told.iter().enumerate();
-        let rows = told.map(|(place, told)| {
-            let moves = moves.get(&place).map_or("", String::as_str);
-            row(told, place == 0, moves, names)
+        let alike = play.told.chunk_by(is_alike);
+        let rows = alike.scan(0, |place, group| {
+            let moves = moves.get(place).map_or("", String::as_str);
+            let row = rows_of(group, *place == 0, moves, names);
+            *place += group.len();
+            Some(row)
         });
-        let beyond = play.beyond.iter().map(|line| {
-            let record = "no record".to_string();
-            Row([line.clone(), record, String::new(), String::new()])
-        });
-        rows.chain(beyond)
+        rows.chain(play.beyond.iter().map(|line| beyond(line)))
     };
     let mut widths = [0; 3];
     for row in rows() {
@@ -49,6 +47,56 @@ pub fn say(play: &Play, names: &Names, stays: &[Stay], each: &mut dyn FnMut(&str
             return;
         }
     }
+}
+
+/// Ticks and keepalives that leave all as it is.
+fn is_alike(one: &Told, next: &Told) -> bool {
+    let is_time = |told: &Told| matches!(told.record, Record::Tick | Record::Keepalive(0 | 1));
+    let answer = |told: &Told| match Said::of(told.line.as_deref()?)? {
+        Said::Line(_, Answer::Full(full)) if full.reports == 0 => Some(full),
+        _ => None,
+    };
+    let same = answer(one).is_some() && answer(one) == answer(next);
+    same && is_time(one) && is_time(next)
+}
+
+/// The row of one record, or of several that are alike.
+fn rows_of(group: &[Told], is_first: bool, moves: &str, names: &Names) -> Row {
+    let [first, .., last] = group else {
+        let one = group
+            .iter()
+            .map(|told| row(told, is_first, moves, names))
+            .next();
+        return one.unwrap_or_else(|| beyond(""));
+    };
+    let Row([line, _, result, stand]) = row(first, is_first, moves, names);
+    let number = |line: &str| line.split(' ').next().unwrap_or("").to_string();
+    let to = number(last.line.as_deref().unwrap_or(""));
+    let (from, rest) = line.split_once(' ').unwrap_or((&line, ""));
+    let ticks = group
+        .iter()
+        .filter(|told| told.record == Record::Tick)
+        .count();
+    let record = match (ticks, group.len() - ticks) {
+        (ticks, 0) => format!("tick {ticks}"),
+        (0, keepalives) => format!("{keepalives} keepalives"),
+        (ticks, keepalives) => format!("{ticks} ticks, {keepalives} keepalives"),
+    };
+    Row([format!("{from}..{to} {rest}"), record, result, stand])
+}
+
+/// A line that no record accounts for; an empty drill has one.
+fn beyond(line: &str) -> Row {
+    let result = match Said::of(line) {
+        Some(Said::Settings(refusal)) => refused_settings(refusal),
+        _ => String::new(),
+    };
+    Row([
+        line.to_string(),
+        "no record".to_string(),
+        result,
+        String::new(),
+    ])
 }
 
 /// Who joins and who leaves with each record.
@@ -121,7 +169,8 @@ pub(crate) fn times(settings: &Settings) -> String {
     format!("level {level}, WTR {wtr} s, hold-off {hold_off} ms, keepalive {keepalive} ms, reports {fast} and {slow} ms, forget {forget} ms")
 }
 
-fn refused_settings(refusal: u8) -> String {
+/// Why settings were refused.
+pub fn refused_settings(refusal: u8) -> String {
     let why = match refusal {
         2 => "cut, empty, or a length outside 2 to 1,033",
         3 => "not a settings record",
@@ -245,6 +294,10 @@ tick => 1 0 0 0 0 0 0 | taken (0)
 attributes west from 02-00-00-00-00-02 => 1 0 0 0 0 1 0 | taken (0): attributes replaced
 bytes 02 00 63 00 => 1 3 0 0 0 0 0 | not an event (3): refused
 link 2 good => 1 4 0 0 0 0 0 | span above 1 (4): refused
+keepalive 2 => 1 4 0 0 0 0 0 | span above 1 (4): refused
+operator 255 ms => 1 4 0 0 0 0 0 | span above 1 (4): refused
+report 2 from 02-00-00-00-00-02 hop 1 => 1 4 0 0 0 0 0 | span above 1 (4): refused
+attributes 2 from 02-00-00-00-00-02 => 1 4 0 0 0 0 0 | span above 1 (4): refused
 link west 3 => 1 4 0 0 0 0 0 | unknown status (4): refused
 operator west sf => 1 4 0 0 0 0 0 | unknown operator request (4): refused
 report west from 02-00-00-00-00-02 hop 1 ringlet 2 => 1 4 0 0 0 0 0 | ringlet above 1 (4): refused
@@ -289,6 +342,54 @@ bytes 00 00 => 1 2 | cut, or a length outside 2 to 1,033 (2): the drill ends
             let said = said("tick\n", &format!("settings {refusal}\n"));
             assert!(said.contains(words) && said.contains(&format!("({refusal}): the drill ends")));
         }
+    }
+
+    #[test]
+    fn time_in_which_nothing_changes_is_one_row() {
+        let lines = |numbers: std::ops::RangeInclusive<u64>, rest: &str| {
+            let lines = numbers.map(|number| format!("{number} {rest}\n"));
+            lines.collect::<String>()
+        };
+        let printed = lines(1..=5, "0 0 0 0 0 0")
+            + &lines(6..=8, "0 0 0 0 0 1")
+            + &lines(9..=11, "0 0 0 0 0 0");
+        let said = said(
+            "settings short\ntick 3 keepalive 3\ntick 3\ntick 3\n",
+            &printed,
+        );
+        let rows: Vec<&str> = said.lines().skip(1).collect();
+        let starts = [
+            "1..5 0 0 0 0 0 0",
+            "6 0 0 0 0 0 1",
+            "7 0 0 0 0 0 1",
+            "8 0 0 0 0 0 1",
+            "9..11 0 0 0 0 0 0",
+        ];
+        assert_eq!(rows.len(), starts.len(), "{said}");
+        assert!(
+            rows.iter()
+                .zip(starts)
+                .all(|(row, start)| row.starts_with(start)),
+            "{said}"
+        );
+        assert!(
+            rows[0].contains("| 3 ticks, 2 keepalives ") && rows[4].contains("| tick 3 "),
+            "{said}"
+        );
+    }
+
+    #[test]
+    fn settings_are_told_in_times() {
+        let source = "settings level 1 wtr 1440 hold-off 20 keepalive 50 fast 20 slow 200 forget 600\ntick\nbytes 00 00\nsettings short\n";
+        let said = said(source, "1 0 0 0 0 0 0\n2 2\n");
+        let words = "level 1, WTR 1440 s, hold-off 200 ms, keepalive 50 ms, reports 20 and 10000 ms, forget 60000 ms";
+        assert!(said.lines().next().unwrap().ends_with(words), "{said}");
+        assert_eq!(
+            said.matches("WTR").count(),
+            1,
+            "settings behind the end are not read\n{said}"
+        );
+        assert!(super::tests::said("bytes\n", "settings 2\n").contains("no record  | cut, empty"));
     }
 
     #[test]

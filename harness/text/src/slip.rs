@@ -42,7 +42,7 @@ impl fmt::Display for Mistake {
         let before = tail(self.source.get(..*at).unwrap_or(""));
         let from = shown(self.source.get(*at..).unwrap_or(""), SHOWN);
         writeln!(f, "    {before}{from}")?;
-        let width = stands.chars().count().clamp(1, SHOWN);
+        let width = shown(stands, SHOWN).chars().count().clamp(1, SHOWN);
         write!(
             f,
             "    {}{}",
@@ -56,10 +56,20 @@ impl fmt::Display for Mistake {
 fn shown(text: &str, most: usize) -> String {
     let letters = text.chars().take(most).map(|letter| match letter {
         '\t' => " ".to_string(),
-        letter if letter.is_control() => letter.escape_default().to_string(),
+        letter if is_unseen(letter) => letter.escape_default().to_string(),
         letter => letter.to_string(),
     });
     letters.collect()
+}
+
+/// Letters that look like a blank or like nothing.
+fn is_unseen(letter: char) -> bool {
+    let blank = letter.is_whitespace() && letter != ' ';
+    let nothing = matches!(
+        letter,
+        '\u{ad}' | '\u{200b}'..='\u{200f}' | '\u{2060}' | '\u{feff}'
+    );
+    letter.is_control() || blank || nothing
 }
 
 /// The last letters of a text.

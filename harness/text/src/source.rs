@@ -24,9 +24,11 @@ pub enum Source {
 /// The text of the worked drill.
 pub const WORKED: &[u8] = include_bytes!("../../../drills/worked.drill");
 
-/// Among the first four bytes of a record stand the high bytes of a length up to 1,033 and of its kind; no text has a byte below 9.
+/// Among the first four bytes of a record stand the high bytes of a length up to 1,033 and of its kind; no text has a byte below 9. A text in UTF-16
+/// has, and is told so.
 pub fn is_bytes(file: &[u8]) -> bool {
-    file.len() < 2 || file.iter().take(4).any(|&byte| byte < 9)
+    let utf_16 = file.starts_with(&[0xFF, 0xFE]) || file.starts_with(&[0xFE, 0xFF]);
+    file.len() < 2 || !utf_16 && file.iter().take(4).any(|&byte| byte < 9)
 }
 
 impl Source {
@@ -101,6 +103,8 @@ mod tests {
         assert!(bytes.iter().all(|file| is_bytes(file)));
         let texts = ["# a", "\t\n\r\n# b", "tick\n", "\u{feff}tick", "\n\n", "ab"];
         assert!(texts.iter().all(|text| !is_bytes(text.as_bytes())));
+        let utf_16: [&[u8]; 2] = [&[0xFF, 0xFE, b'#', 0], &[0xFE, 0xFF, 0, b'#']];
+        assert!(utf_16.iter().all(|text| !is_bytes(text)));
         assert!(!is_bytes(WORKED));
     }
 }

@@ -58,7 +58,7 @@ pub fn follow(play: &Play, quiet: &Play) -> Result<Vec<Stay>, String> {
         }
         if table.stations.len() != usize::from(full.stations) {
             return Err(format!(
-                "line {place}: {} stations are printed where {} were followed; a picture would be wrong, and is not drawn",
+                "printed line {place}: {} stations are printed where {} were followed; a picture would be wrong, and is not drawn",
                 full.stations,
                 table.stations.len()
             ));
@@ -71,7 +71,7 @@ pub fn follow(play: &Play, quiet: &Play) -> Result<Vec<Stay>, String> {
 fn failed(quiet: &Play, place: usize) -> Result<[bool; 2], String> {
     let told = quiet.told.get(place).and_then(full);
     let full = told.ok_or(format!(
-        "line {place} is not there in the run without operators"
+        "printed line {place} is not there in the run without operators"
     ))?;
     Ok(full.requests.map(|request| request == SF))
 }

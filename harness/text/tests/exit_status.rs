@@ -152,6 +152,12 @@ fn all_wants_every_line() {
         ),
         (bytes, 2, "is no text"),
     ];
+    let (status, said, _) = output(&place.run(LINES, &["--all", &cases[5].0, &good, &cases[0].0]));
+    let order = ["h.drill", "b.drill", "1 as expected, 2 not"].map(|word| said.find(word));
+    assert!(
+        status == Some(2) && order.is_sorted() && order[0].is_some(),
+        "{said}"
+    );
     for (file, wanted, words) in cases {
         let (status, said, _) = output(&place.run(LINES, &["--all", &good, &file]));
         assert_eq!(status, Some(wanted), "{said}");
@@ -267,6 +273,19 @@ impl Write for Deaf {
 
 #[test]
 fn one_who_has_read_enough_is_no_trouble() {
+    let place = Place::new("enough");
+    let file = place.file("a.drill", WORKED);
+    for (lines, wanted) in [(LINES, 0), ("1 0 0 0 0 2 0\n2 way 0\n", 1)] {
+        let said = place.file("said", lines);
+        let program = format!("sh {}", place.file("program", format!("cat '{said}'\n")));
+        let mut arguments = vec!["--drill".to_string(), program, file.clone()];
+        for _ in 0..2 {
+            let mut deaf = Deaf(ErrorKind::BrokenPipe);
+            let status = perform(arguments.clone(), &mut deaf, &mut Vec::new());
+            assert_eq!(status, wanted, "{arguments:?}");
+            arguments.push("--say".to_string());
+        }
+    }
     for (reason, wanted) in [(ErrorKind::BrokenPipe, 0), (ErrorKind::StorageFull, 2)] {
         for task in ["--help", "--text", "--bytes"] {
             let mut errors = Vec::new();
@@ -287,10 +306,72 @@ fn without_a_file_it_is_the_worked_drill() {
 }
 
 #[test]
+fn a_picture_is_drawn_and_what_differs_is_told() {
+    let place = Place::new("picture");
+    let file = place.file("a.drill", WORKED);
+    let out = place.0.path().join("a.svg").display().to_string();
+    for (lines, wanted) in [(LINES, 0), ("1 0 0 0 0 1 1\n2 way 0\n", 1)] {
+        assert_eq!(
+            output(&place.run(lines, &["--picture", &out, &file])).0,
+            Some(wanted)
+        );
+        assert!(fs::read_to_string(&out).unwrap().starts_with("<svg "));
+    }
+}
+
+#[test]
+fn what_an_operator_hides_is_seen_in_a_second_run() {
+    let place = Place::new("hidden");
+    let out = place.0.path().join("a.svg").display().to_string();
+    let hidden = "operator west fs => 2 0 5 0 1 1 1\nlink west failed => 3 0 5 0 1 0 0\n# way B";
+    let file = place.file("b.drill", WORKED.replace("way B", hidden));
+    let loud = place.file("loud", "1 0 0 0 0 1 0\n2 0 5 0 1 1 1\n3 0 5 0 1 0 0\n");
+    let quiet = place.file("quiet", "1 0 0 0 0 1 0\n2 0 0 0 0 1 0\n3 0 4 0 1 0 1\n");
+    let has_fs = "od -An -v -tx1 \"$1\" | tr -d ' \\n' | grep -q 040004000005";
+    let script = format!("{has_fs} && cat '{loud}' || cat '{quiet}'\n");
+    let command = format!("sh {}", place.file("program", script));
+    for arguments in [&["--picture", &out, &file][..], &["--say", &file]] {
+        let run = Command::new(TEXT)
+            .args(["--drill", &command])
+            .args(arguments)
+            .output();
+        let (status, said, complained) = output(&run.unwrap());
+        assert_eq!(status, Some(0), "{complained}");
+        assert!(
+            arguments[0] == "--picture" || said.contains("no station, B leaves"),
+            "{said}"
+        );
+    }
+}
+
+#[test]
+fn reports_by_hand_and_refused_settings_are_told() {
+    let place = Place::new("told");
+    let by_hand = place.file("a.drill", format!("# reports by hand: 1\n{WORKED}"));
+    let (status, _, complained) = output(&place.run(LINES, &[&by_hand]));
+    assert_eq!(
+        (status, &complained[..]),
+        (Some(1), "drill: line 1: 1 reports, printed 0 reports\n")
+    );
+    let forgotten = place.file("b.drill", "tick\n");
+    let (status, said, complained) = output(&place.run("settings 3\n", &[&forgotten]));
+    assert_eq!((status, &said[..]), (Some(0), "settings 3\n"));
+    assert_eq!(
+        complained,
+        "drill: settings refused: not a settings record (3): the drill ends\n"
+    );
+    let expected = place.file("c.drill", "tick => settings 3\n");
+    assert_eq!(output(&place.run("settings 3\n", &[&expected])).2, "");
+}
+
+#[test]
 fn what_cannot_be_used_is_2() {
     let place = Place::new("cannot");
     let file = place.file("a.drill", WORKED);
-    let runs: [&[&str]; 8] = [
+    let runs: [&[&str]; 11] = [
+        &["-say", &file],
+        &["--picture", &file],
+        &["--picture", "-", &file],
         &["no/such/file"],
         &["--all"],
         &["--picture", "no/such/folder/a.svg", &file],

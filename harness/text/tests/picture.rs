@@ -275,16 +275,59 @@ fn the_full_ring_has_63_rows_and_the_same_picture_twice() {
     assert_eq!(picture, drill.draw().unwrap());
 }
 
+/// A picture that is kept beside or apart from its drill, and drawn again.
+fn is_kept(drill: &Drill, kept: &str) -> String {
+    let drawn = drill.draw().unwrap();
+    let file = fs::read_to_string(top().join(kept)).unwrap();
+    assert!(
+        drawn == file,
+        "look at it, then: ./drill --picture {kept} {}",
+        drill.name
+    );
+    file
+}
+
 #[test]
 fn the_picture_in_docs_is_that_of_the_night_copy() {
-    let drawn = Drill::named("night_copy.drill").draw().unwrap();
-    let kept = fs::read_to_string(top().join("docs/night.svg")).unwrap();
-    assert!(
-        drawn == kept,
-        "draw it again: ./drill --picture docs/night.svg drills/night_copy.drill"
-    );
+    let kept = is_kept(&Drill::named("night_copy.drill"), "docs/night.svg");
     for answer in ["west", "east"] {
         assert!(kept.contains(&format!(">{answer}</text>")));
+    }
+}
+
+#[test]
+fn time_goes_on_in_the_next_strip() {
+    let kept = is_kept(
+        &Drill::named("swinging_link.drill"),
+        "harness/text/tests/swinging_link.svg",
+    );
+    assert!(kept.contains("196 of 300 ticks") && kept.contains("104 of 300 ticks"));
+}
+
+#[test]
+fn every_part_is_drawn_as_it_was_when_somebody_looked() {
+    let folder = Path::new("harness/text/tests");
+    let file = fs::read(top().join(folder).join("every_part.drill")).unwrap();
+    let kept = is_kept(
+        &Drill::of("every_part.drill", file),
+        "harness/text/tests/every_part.svg",
+    );
+    for part in [
+        "not in",
+        "no way",
+        "22",
+        "23",
+        "24",
+        "20",
+        "21",
+        "FS",
+        "WTR",
+        "SF",
+        "SD",
+        "MS",
+        "the drill ends",
+    ] {
+        assert!(kept.contains(part), "{part}");
     }
 }
 
@@ -303,6 +346,12 @@ link west failed => 3 0 5 0 1 0 0
         "1 0 0 0 0 1 0\n2 0 0 0 0 1 0\n3 0 4 0 1 0 1\n",
     );
     assert_eq!(quiet.told[2].record, Record::Operator(0, 0));
+    let refused = play(&[2, 0, 1, 0, 4, 0, 4, 0, 0, 4], "1 4 0 0 0 0 0\n");
+    assert_eq!(
+        without_operators(&refused)[4..],
+        [4, 0, 4, 0, 0, 4],
+        "what was refused stays"
+    );
     let stays = follow(&loud, &quiet).unwrap();
     assert_eq!((stays.len(), stays[0].from, stays[0].to), (1, 1, Some(3)));
     let why = drill.draw().unwrap_err();

@@ -83,6 +83,24 @@ const MISTAKES: &[(&str, usize, &str, &str)] = &[
     ("report west from B hop 256", 23, "256", "a number from 1 to 255"),
     ("report west from B hop 1 seq", 25, "seq", "sequence, ringlet, west and east request (idle, wtr, ms, sd, sf, fs, or a number from 0 to 255), '=>', '#' or the end of the line"),
     ("report west from B hop 1 sd", 27, "", "idle, wtr, ms, sd, sf, fs, or a number from 0 to 255"),
+    (
+        "report west from B hop 1 idle idle sf sf",
+        35,
+        "sf",
+        "'=>', '#' or the end of the line",
+    ),
+    (
+        "tick => 1 3",
+        11,
+        "",
+        "the number of the line's field 'west request'",
+    ),
+    (
+        "tick => 0 0 0 0 0 0 0",
+        8,
+        "0",
+        "the number of a line, the numbers of several such as 7..9, or settings",
+    ),
     ("attributes west from B wieghts 1 1", 23, "wieghts", "weights, reserved, block, '=>', '#' or the end of the line"),
     ("attributes west from B weights 1 1 block", 35, "block", "weights, reserved, '=>', '#' or the end of the line"),
     ("attributes west from B block 00*1025", 23, "block", "a block of at most 1024 bytes; a longer record is said with bytes"),
@@ -123,6 +141,35 @@ fn mistakes_are_told_with_what_stands_there_and_what_could() {
 }
 
 #[test]
+fn unseen_letters_are_shown() {
+    let mistakes = Text::read("link\u{a0}west good\n".as_bytes()).unwrap_err();
+    assert!(mistakes[0]
+        .to_string()
+        .starts_with("line 1: 'link\\u{a0}west' stands"));
+    let mistakes = Text::read("\u{200b}tick\n".as_bytes()).unwrap_err();
+    assert!(mistakes[0]
+        .to_string()
+        .starts_with("line 1: '\\u{200b}tick' stands"));
+    let mistakes = Text::read(b"\xFF\xFEt\0").unwrap_err();
+    assert!(mistakes[0]
+        .to_string()
+        .contains("UTF-16 has to be saved as UTF-8"));
+}
+
+#[test]
+fn a_long_drill_fits_as_long_as_it_has_64_mib() {
+    let run = "tick 2000000 keepalive 1000\n";
+    // 8,020,000 bytes each.
+    assert!(Text::read(run.repeat(8).as_bytes()).is_ok());
+    assert_eq!(Text::read(run.repeat(9).as_bytes()).unwrap_err()[0].line, 9);
+}
+
+#[test]
+fn one_line_may_be_named_as_several() {
+    assert!(Text::read(b"tick => 7..7 0 0 0 0 0 0\n").is_ok());
+}
+
+#[test]
 fn a_message_points_at_the_mistake() {
     let mistakes = Text::read("tick\n\tlänk west gut # é\n".as_bytes()).unwrap_err();
     let wanted = "\
@@ -133,5 +180,5 @@ line 2: 'länk' stands where this could stand: name, settings, tick, link, keepa
     let mistakes = Text::read(b"tick\ntick \xFF\xFE\n").unwrap_err();
     assert!(mistakes[0]
         .to_string()
-        .starts_with("line 2: 'byte FF' stands where this could stand: a letter in UTF-8\n"));
+        .starts_with("line 2: 'byte FF' stands where this could stand: a letter in UTF-8"));
 }

@@ -80,7 +80,7 @@ pub fn steps(play: &Play) -> Result<Vec<Step<'_>>, String> {
 
 fn step(place: usize, told: &Told, before: Option<[u8; 2]>) -> Result<Step<'_>, String> {
     let line = told.line.as_deref();
-    let line = line.ok_or(format!("no line {place} is printed"))?;
+    let line = line.ok_or(format!("no line {place} is printed by the program"))?;
     match Said::of(line) {
         Some(Said::Line(number, answer)) if usize::try_from(number) == Ok(place) => Ok(Step {
             number,
@@ -89,7 +89,7 @@ fn step(place: usize, told: &Told, before: Option<[u8; 2]>) -> Result<Step<'_>, 
             requests: answer.full().map(|full| full.requests).or(before),
         }),
         _ => Err(format!(
-            "'{line}' is printed where line {place} should stand"
+            "'{line}' is printed where line {place} of the program should stand"
         )),
     }
 }
