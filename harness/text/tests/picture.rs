@@ -281,7 +281,7 @@ fn is_kept(drill: &Drill, kept: &str) -> String {
     let file = fs::read_to_string(top().join(kept)).unwrap();
     assert!(
         drawn == file,
-        "look at it, then: ./drill --picture {kept} {}",
+        "look at it, then: ./drill --picture {kept} drills/{}",
         drill.name
     );
     file
@@ -306,12 +306,8 @@ fn time_goes_on_in_the_next_strip() {
 
 #[test]
 fn every_part_is_drawn_as_it_was_when_somebody_looked() {
-    let folder = Path::new("harness/text/tests");
-    let file = fs::read(top().join(folder).join("every_part.drill")).unwrap();
-    let kept = is_kept(
-        &Drill::of("every_part.drill", file),
-        "harness/text/tests/every_part.svg",
-    );
+    let drill = Drill::named("every_part.drill");
+    let kept = is_kept(&drill, "harness/text/tests/every_part.svg");
     for part in [
         "not in",
         "no way",
