@@ -5,13 +5,15 @@ use std::ffi::OsString;
 use std::fs::{self, File};
 use std::io::{ErrorKind, Read};
 use std::path::{Path, PathBuf};
-use std::process::{Child, Command, Stdio};
+use std::process::{Child, Command, ExitStatus, Stdio};
 use std::sync::mpsc;
 use std::thread;
-use std::time::Duration;
+use std::time::{Duration, Instant};
 
 /// How long one drill of many may take.
 const TIME_LIMIT: Duration = Duration::from_secs(120);
+/// Between two looks at a program that is about to end.
+const PAUSE: Duration = Duration::from_millis(1);
 /// The script that runs the proved program, from the root of the repository.
 const USUAL: [&str; 2] = ["drills", "run"];
 
@@ -115,10 +117,15 @@ impl Program {
     }
 
     fn ended(&self, child: &mut Child, desk: &Desk) -> Result<Option<String>, String> {
-        let status = child
-            .wait()
-            .map_err(|error| format!("{}: {error}", self.name()))?;
-        Ok((!status.success()).then(|| format!("{status}{}", desk.first_error())))
+        match wait_in_time(child) {
+            Ok(status) => {
+                Ok((!status.success()).then(|| format!("{status}{}", desk.first_error())))
+            }
+            Err(trouble) => {
+                give_up(child);
+                Err(format!("{}: {trouble}", self.name()))
+            }
+        }
     }
 
     fn command(&self, file: &Path, errors: File) -> Command {
@@ -141,6 +148,19 @@ impl Program {
 fn give_up(child: &mut Child) {
     let _ = child.kill();
     let _ = child.wait();
+}
+
+/// Waits for a program that says nothing any more.
+fn wait_in_time(child: &mut Child) -> Result<ExitStatus, String> {
+    let began = Instant::now();
+    loop {
+        match child.try_wait() {
+            Ok(Some(status)) => return Ok(status),
+            Ok(None) if began.elapsed() < TIME_LIMIT => thread::sleep(PAUSE),
+            Ok(None) => return Err(format!("no end after {} s", TIME_LIMIT.as_secs())),
+            Err(error) => return Err(error.to_string()),
+        }
+    }
 }
 
 /// Reads standard output to its end, in a thread so that the wait can be cut short.

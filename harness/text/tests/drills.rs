@@ -6,6 +6,10 @@ use std::path::Path;
 use text::accepting::accept;
 use text::reading::Text;
 use text::record::Record;
+use text::saying::say;
+use text::source::WORKED;
+use text::stations::follow;
+use text::told::play;
 use text::writing;
 
 /// The drills with their texts.
@@ -46,6 +50,26 @@ fn accepting_what_is_expected_changes_nothing() {
             "{name}"
         );
     }
+}
+
+#[test]
+fn readme_shows_what_is_said() {
+    let top = Path::new(env!("CARGO_MANIFEST_DIR")).join("../..");
+    let readme = fs::read_to_string(top.join("README.md")).unwrap();
+    let worked = Text::read(WORKED).unwrap();
+    let play = play(&worked.bytes(), &worked.expected());
+    let stays = follow(&play, &play).unwrap();
+    let mut said = String::new();
+    say(&play, &worked.names, &stays, &mut |row| {
+        said += row;
+        true
+    });
+    assert!(readme.contains(&format!("```\n{said}```")), "{said}");
+    let own = readme
+        .split("```\n")
+        .find(|block| block.starts_with("# a copy teaches"));
+    let own = Text::read(own.unwrap().as_bytes()).unwrap();
+    assert_eq!(own.expected(), "1 0 0 0 0 1 0\n2 0 0 0 0 1 0\n3 way 0\n");
 }
 
 #[test]

@@ -1,7 +1,9 @@
 //! The program as a whole: what it prints and its exit status, with a program in the drill's place that says fixed lines.
 
+use std::ffi::OsStr;
 use std::fs;
 use std::io::{self, ErrorKind, Write};
+use std::os::unix::ffi::OsStrExt;
 use std::process::{Command, Output};
 
 use text::command::perform;
@@ -387,4 +389,10 @@ fn what_cannot_be_used_is_2() {
         assert!(complained.starts_with("drill: "), "{complained}");
     }
     assert_eq!(output(&place.run(LINES, &["--help"])).0, Some(0));
+    let odd = OsStr::from_bytes(b"\xE4.drill");
+    let (status, _, complained) = output(&Command::new(TEXT).arg(odd).output().unwrap());
+    assert!(
+        status == Some(2) && complained.contains("is not UTF-8"),
+        "{complained}"
+    );
 }
