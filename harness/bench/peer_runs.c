@@ -38,6 +38,8 @@ static struct packed record_of(uint32_t stations, uint32_t which) {
     case 5: return attributes();
     case 6: return brief(4, 2, 0, 0);
     case 7: return brief(4, 4, 1, 0);
+    case 8: return brief(2, 7, 0, 0);
+    case 9: return report(0, 1, 0, 255);
     default: return (struct packed){{0}, 0};
     }
 }
@@ -74,6 +76,13 @@ static void set_up(struct ring *r, uint32_t stations) {
     }
 }
 
+/* The ring that takes the record: for 9 station 2 has taken the hop of station 1 on ringlet 1. */
+static void ready(struct ring *r, uint32_t stations, uint32_t which) {
+    const struct packed taking = report(1, stations ? (uint8_t)stations : 1, 1, 2);
+    set_up(r, stations);
+    if (which == 9) take(r, &taking);
+}
+
 /* The ring that is asked: with FS on both spans for the last of the questions. */
 static void stand(struct ring *r, uint32_t stations, uint32_t which) {
     const struct packed forced[] = {brief(4, 4, 0, 5), brief(4, 4, 1, 5)};
@@ -91,7 +100,7 @@ uint64_t peer_record(uint32_t stations, uint32_t which, uint32_t calls) {
     const struct packed record = record_of(capped(stations), which);
     struct ring r;
     uint64_t sum = 0;
-    set_up(&r, capped(stations));
+    ready(&r, capped(stations), which);
     for (uint32_t left = calls; left > 0; left--) sum += take(&r, &record);
     return sum;
 }

@@ -13,16 +13,17 @@ use Rattle.blocks.specs.Types.{among, knows, good}
 use Rattle.blocks.specs.Meaning.{sound, known, has, behind}
 use Rattle.stations.specs.declared.station.Station.{Station}
 use Rattle.stations.specs.Table.{blank, tableOf}
+use Rattle.stations.specs.Rows.{image, tableIn}
 use Rattle.ways.specs.Choice.{number}
-use Rattle.controller.specs.declared.node.Node.{Node}
+use Rattle.controller.specs.Node.{Node, stateOf, startedWith, steered}
+use Rattle.controller.specs.Own.{ownOf}
 use Rattle.controller.specs.Record.{outcome}
-use Rattle.controller.specs.Node.{stateOf, startedWith, steered}
 use Rattle.bench.specs.Records.{recordOf}
-use Rattle.bench.specs.Ring.{taken, joined, ringTo, ringOf, forced}
-use Rattle.bench.specs.Runs.{told, addressee, standing}
+use Rattle.bench.specs.Ring.{taken, joined, ringTo, ringOf, parted, forced}
+use Rattle.bench.specs.Runs.{told, station, addressee, standing, readied}
 
 unfoldable pub three : Node
-unfolding ringOf ringTo joined taken startedWith settingsIn headOf broken fullIn fieldsOf inRange addressAt tableOf ticksOf blank reportBytes outcome
+unfolding ringOf ringTo joined taken startedWith settingsIn headOf broken fullIn fieldsOf inRange addressAt ownOf tableOf image tableIn ticksOf blank reportBytes outcome
 three = ringOf 3
 
 -- The hops of each station, ringlet 0 first.
@@ -30,10 +31,14 @@ unfoldable pub hops : List Station → List ℕ
 hops [] = []
 hops (s ∷ l) = s .hop0 ∷ s .hop1 ∷ hops l
 
+unfoldable pub addresses : List Station → List ℕ
+addresses [] = []
+addresses (s ∷ l) = s .address ∷ addresses l
+
 -- What the first call of each record adds, for the numbers below n, the last first.
 unfoldable pub results : ℕ → List ℕ
 results zero = []
-results (suc n) = told (taken three (recordOf 3 n)) ∷ results n
+results (suc n) = told (taken (readied 3 n) (recordOf 3 n)) ∷ results n
 
 -- The replies to the questions below n, the last first.
 unfoldable pub replies : ℕ → List ℕ
@@ -44,9 +49,18 @@ pub three-around : hops (stateOf three .stations) ≡ 1 ∷ 3 ∷ 2 ∷ 2 ∷ 3 
 unfolding three hops
 three-around = refl
 
--- Every record is taken but the empty one, which is refused with 2.
-pub three-results : results 9 ≡ 2 ∷ 0 ∷ 0 ∷ 0 ∷ 0 ∷ 0 ∷ 0 ∷ 0 ∷ 0 ∷ []
-unfolding three results recordOf cut sound known among knows good has behind
+-- Parted, station 1 has its hop on ringlet 0 left; the new station takes it, and station 1 leaves.
+pub three-parted : hops (stateOf (readied 3 9) .stations) ≡ 1 ∷ 0 ∷ 2 ∷ 3 ∷ 3 ∷ 1 ∷ []
+unfolding three hops readied parted
+three-parted = refl
+
+pub three-left : addresses (stateOf (taken (readied 3 9) (recordOf 3 9) .node) .stations) ≡ 2199023255807 ∷ station 2 ∷ station 3 ∷ []
+unfolding three addresses readied parted recordOf
+three-left = refl
+
+-- Every record is taken but the empty one, which is refused with 2, and the unknown one, with 3.
+pub three-results : results 11 ≡ 2 ∷ 0 ∷ 3 ∷ 0 ∷ 0 ∷ 0 ∷ 0 ∷ 0 ∷ 0 ∷ 0 ∷ 0 ∷ []
+unfolding three results readied parted recordOf cut sound known among knows good has behind
 three-results = refl
 
 -- No way where both spans are forced; nobody; east to the farthest on ringlet 0; west to the middle and to the nearest.

@@ -4,8 +4,7 @@ use mathlib.Core.Path.{_≡_, refl}
 use mathlib.Core.List.{List}
 use native.Mathlib.Omega.{arith}
 use native.Mathlib.Nat.{zero-mul, suc-mul}
-use Rattle.controller.specs.declared.node.Node.{Node}
-use Rattle.controller.specs.declared.record.Answer.{Answer}
+use Rattle.controller.specs.Node.{Node, Answer}
 use Rattle.bench.specs.Ring.{taken}
 use Rattle.bench.specs.Runs.{told, carried}
 

@@ -23,6 +23,10 @@ keepalive span = 3 ∷ 0 ∷ 3 ∷ 0 ∷ span ∷ []
 abbrev pub operator : ℕ → ℕ → List ℕ
 operator span request = 4 ∷ 0 ∷ 4 ∷ 0 ∷ span ∷ request ∷ []
 
+-- A kind that no call takes.
+abbrev pub unknown : List ℕ
+unknown = 2 ∷ 0 ∷ 7 ∷ 0 ∷ []
+
 -- Heard on the span of its ringlet, at a hop, with sequence 1, idle.
 abbrev pub report : ℕ → ℕ → ℕ → ℕ → List ℕ
 report ringlet hop high low =
@@ -37,7 +41,7 @@ attributes high low =
 abbrev pub middle : ℕ → ℕ
 middle stations = stations / 2 + 1
 
--- The record of a number, for a ring of so many stations. The new station of 3 and 4 stands before all others in the table.
+-- The record of a number, for a ring of so many stations. The new station of 3, 4 and 9 stands before all others in the table.
 unfoldable pub recordOf : ℕ → ℕ → List ℕ
 recordOf stations which =
     cond (eqb which 0) tick
@@ -47,7 +51,9 @@ recordOf stations which =
     (cond (eqb which 4) (report 0 1 0 255)
     (cond (eqb which 5) (attributes 1 1)
     (cond (eqb which 6) (link 0 0)
-    (cond (eqb which 7) (operator 1 0) [])))))))
+    (cond (eqb which 7) (operator 1 0)
+    (cond (eqb which 8) unknown
+    (cond (eqb which 9) (report 0 1 0 255) [])))))))))
 
 -- A record stands at the front of the bytes.
 pub record Holds (b : List ℕ) (r : Packed) : Type 0 where

@@ -3,11 +3,9 @@ use Prim.Native.Nat.{ℕ, zero, suc, _+_, _-_}
 use mathlib.Core.Path.{_≡_}
 use mathlib.Core.Bool.{cond}
 use mathlib.Core.List.{List}
-use lib.Dec.{ltb}
+use lib.Dec.{eqb, ltb}
 use Rattle.controller.specs.Record.{outcome}
-use Rattle.controller.specs.declared.node.Node.{Node}
-use Rattle.controller.specs.declared.record.Answer.{Answer}
-use Rattle.controller.specs.Node.{stateOf, startedWith, answerOf}
+use Rattle.controller.specs.Node.{Node, Answer, stateOf, startedWith, answerOf}
 use Rattle.controller.specs.Kept.{Kept}
 use Rattle.bench.specs.Records.{settings, operator, report}
 
@@ -34,6 +32,10 @@ ringTo stations (suc k) = joined stations (suc k) (ringTo stations k)
 
 unfoldable pub ringOf : ℕ → Node
 ringOf stations = ringTo stations stations
+
+-- Station 2 takes the hop of station 1 on ringlet 1: station 1 has its hop on ringlet 0 left and no other.
+unfoldable pub parted : ℕ → Node → Node
+parted stations n = taken n (report 1 (cond (eqb stations 0) 1 stations) 1 2) .node
 
 -- FS from the operator on both spans: no way is open.
 unfoldable pub forced : Node → Node

@@ -3,11 +3,10 @@ use Prim.Native.Nat.{ℕ, zero, suc, _+_}
 use mathlib.Core.Bool.{cond}
 use mathlib.Core.List.{List}
 use lib.Dec.{eqb, ltb}
-use Rattle.controller.specs.declared.node.Node.{Node}
-use Rattle.controller.specs.declared.record.Answer.{Answer}
 use Rattle.controller.specs.declared.ask.Shown.{Shown}
+use Rattle.controller.specs.Node.{Node, Answer}
 use Rattle.bench.specs.Records.{middle}
-use Rattle.bench.specs.Ring.{taken, ringOf, forced}
+use Rattle.bench.specs.Ring.{taken, ringOf, parted, forced}
 
 -- The result, and 256 for a report that was written.
 abbrev pub told : Answer → ℕ
@@ -37,3 +36,7 @@ addressee stations which =
 -- The node that is asked: from 4 on with no way open.
 unfoldable pub standing : ℕ → ℕ → Node
 standing stations which = cond (ltb which 4) (ringOf stations) (forced (ringOf stations))
+
+-- The node that takes the record of a number: for 9 the station at hop 1 has that hop alone.
+unfoldable pub readied : ℕ → ℕ → Node
+readied stations which = cond (eqb which 9) (parted stations (ringOf stations)) (ringOf stations)

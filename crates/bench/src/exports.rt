@@ -3,41 +3,61 @@ use crate::records::middle;
 use crate::records::record_of;
 use crate::ring::capped;
 use crate::ring::force;
+use crate::ring::part;
 use crate::ring::ring;
 use crate::runs::carry;
 use crate::runs::show_all;
 use crate::runs::steer_all;
-use controller::Node;
+use controller::OWN_WORDS;
+use controller::ROW_WORDS;
 ghost use mathlib.Core.Path.{_≡_};
 ghost use Prim.Native.Nat.{_*_, _≤_};
 ghost use lib.ListN.{length};
 ghost use Rattle.ways.specs.Choice.{number};
-ghost use Rattle.controller.specs.Node.{stateOf, steered, asked};
+ghost use Rattle.controller.specs.Node.{node, stateOf, steered, asked};
 ghost use Rattle.bench.specs.Records.{recordOf};
 ghost use Rattle.bench.specs.Ring.{Stands, capped, ringOf};
-ghost use Rattle.bench.specs.Runs.{carried, weighed, station, addressee, standing};
+ghost use Rattle.bench.specs.Runs.{carried, weighed, station, addressee, standing, readied};
 
 // The ring alone: how many stations are in the table.
 #[no_mangle]
 pub extern "C" fn bench_setup(stations: u32) -> u64
     ensures { λ r. ⌜ r ≡ length (stateOf (ringOf (capped stations)) .stations) ⌝ }
 {
-    controller::station_count(ring(capped(stations))) as u64
+    let mut own = [0; OWN_WORDS];
+    let mut rows = [0; ROW_WORDS];
+    ring(&mut own, &mut rows, capped(stations));
+    controller::station_count(&own, &rows) as u64
+}
+
+// The node that takes the record of a number.
+fn ready(own: &mut [u64; OWN_WORDS], rows: &mut [u64; ROW_WORDS], stations: u8, which: u32)
+    requires { ⌜ stations ≤ 63 ⌝ }
+    ensures { λ _. ⌜ Stands (readied stations which) (node (now (own .exit)) (now (rows .exit))) ⌝ }
+{
+    ring(own, rows, stations);
+    if which == 9 {
+        part(own, rows, stations);
+    }
 }
 
 // The ring, then one record `calls` times, the node carried from call to call.
 // 0 tick, 1 keepalive, 2 a copy from the middle station, 3 a new station at the next hop (6 at 63 stations), 4 a new station at hop 1
-// (23 at 63 stations), 5 attributes, 6 link good, 7 operator none, any other number an empty record.
+// (23 at 63 stations), 5 attributes, 6 link good, 7 operator none, 8 an unknown kind, 9 a new station at hop 1 where the one there leaves,
+// any other number an empty record.
 // Ticks carried: at the 50th without a keepalive both spans go down and the table is emptied.
 #[no_mangle]
 pub extern "C" fn bench_record(stations: u32, which: u32, calls: u32) -> u64
-    ensures { λ r. ⌜ r ≡ carried (recordOf (capped stations) which) calls (ringOf (capped stations)) ⌝ }
+    ensures { λ r. ⌜ r ≡ carried (recordOf (capped stations) which) calls (readied (capped stations) which) ⌝ }
 {
     let s = capped(stations);
     let chosen = record_of(s, which);
     let bytes = chosen.bytes;
     let end = chosen.length;
-    carry(ring(s), &bytes[..end], calls)
+    let mut own = [0; OWN_WORDS];
+    let mut rows = [0; ROW_WORDS];
+    ready(&mut own, &mut rows, s, which);
+    carry(&mut own, &mut rows, &bytes[..end], calls)
 }
 
 // 02-00-00-00-01-k.
@@ -62,15 +82,14 @@ fn addressee(stations: u8, which: u32) -> u64
 }
 
 // The node that is asked.
-fn standing(stations: u8, which: u32) -> Node
+fn stand(own: &mut [u64; OWN_WORDS], rows: &mut [u64; ROW_WORDS], stations: u8, which: u32)
     requires { ⌜ stations ≤ 63 ⌝ }
-    ensures { λ r. ⌜ Stands (standing stations which) r ⌝ }
+    ensures { λ _. ⌜ Stands (standing stations which) (node (now (own .exit)) (now (rows .exit))) ⌝ }
 {
-    let n = ring(stations);
-    if which < 4 {
-        return n;
+    ring(own, rows, stations);
+    if 4 <= which {
+        force(own, rows);
     }
-    force(n)
 }
 
 // The ring, then `calls` times the way to a station.
@@ -80,7 +99,10 @@ pub extern "C" fn bench_steer(stations: u32, which: u32, calls: u32) -> u64
     ensures { λ r. ⌜ r ≡ calls * number (steered (stateOf (standing (capped stations) which)) (addressee (capped stations) which)) ⌝ }
 {
     let s = capped(stations);
-    steer_all(standing(s, which), addressee(s, which), calls)
+    let mut own = [0; OWN_WORDS];
+    let mut rows = [0; ROW_WORDS];
+    stand(&mut own, &mut rows, s, which);
+    steer_all(&own, &rows, addressee(s, which), calls)
 }
 
 // The ring, then `calls` times the attributes of the same stations.
@@ -89,5 +111,8 @@ pub extern "C" fn bench_attributes(stations: u32, which: u32, calls: u32) -> u64
     ensures { λ r. ⌜ r ≡ calls * weighed (asked (stateOf (standing (capped stations) which)) (addressee (capped stations) which)) ⌝ }
 {
     let s = capped(stations);
-    show_all(standing(s, which), addressee(s, which), calls)
+    let mut own = [0; OWN_WORDS];
+    let mut rows = [0; ROW_WORDS];
+    stand(&mut own, &mut rows, s, which);
+    show_all(&own, &rows, addressee(s, which), calls)
 }

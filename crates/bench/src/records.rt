@@ -96,6 +96,8 @@ pub(crate) fn record_of(stations: u8, which: u32) -> Packed
         5 => attributes(1, 1),
         6 => brief(4, 2, 0, 0),
         7 => brief(4, 4, 1, 0),
+        8 => brief(2, 7, 0, 0),
+        9 => report(0, 1, 0, 255),
         _ => Packed {
             bytes: [0; 25],
             length: 0,

@@ -2,35 +2,42 @@
 use crate::records::Packed;
 use crate::records::brief;
 use crate::records::report;
-use controller::Answer;
-use controller::Node;
+use controller::OWN_WORDS;
+use controller::ROW_WORDS;
+use controller::Returned;
 ghost use mathlib.Core.Path.{_≡_};
+ghost use mathlib.Core.Bool.{cond};
 ghost use Prim.Native.Nat.{_≤_};
+ghost use lib.Dec.{eqb};
 ghost use lib.ListN.{length, take};
 ghost use Rattle.controller.specs.Kept.{Kept};
-ghost use Rattle.bench.specs.Ring.{taken, Took, Stands, capped, joined, ringOf, forced};
+ghost use Rattle.controller.specs.Node.{node, answerIn};
+ghost use Rattle.bench.specs.Ring.{taken, Took, Stands, capped, joined, ringOf, parted, forced};
 
 // Kind 32: level 2, address 02-00-00-00-00-01, WTR 0, hold-off 0, keepalive 50, fast 10, slow 2, forget 600.
 const SETTINGS: [u8; 19] = [17, 0, 32, 0, 2, 2, 0, 0, 0, 0, 1, 0, 0, 0, 50, 10, 2, 88, 2];
 
 // A record taken, with room for a report.
-pub(crate) fn take(n: Node, bytes: &[u8]) -> Answer
-    requires { ⌜ Kept n ⌝ }
-    ensures { λ a. ⌜ Took n (now (bytes .entry)) a ⌝ }
+pub(crate) fn take(
+    own: &mut [u64; OWN_WORDS],
+    rows: &mut [u64; ROW_WORDS],
+    bytes: &[u8],
+) -> Returned
+    requires { ⌜ Kept (node (now own) (now rows)) ⌝ }
+    ensures { λ a. ⌜ Took (node (now (own .entry)) (now (rows .entry))) (now (bytes .entry)) (answerIn (now (own .exit)) (now (rows .exit)) a) ⌝ }
 {
     let mut out = [0u8; 7];
-    controller::take_record(n, bytes, &mut out)
+    controller::take_record(own, rows, bytes, &mut out)
 }
 
 // The node after a record.
-fn after(n: Node, r: Packed) -> Node
-    requires { ⌜ Kept n × (r .length ≤ length (r .bytes)) ⌝ }
-    ensures { λ m. ⌜ Stands (taken n (take (r .length) (r .bytes)) .node) m ⌝ }
+fn after(own: &mut [u64; OWN_WORDS], rows: &mut [u64; ROW_WORDS], r: Packed)
+    requires { ⌜ Kept (node (now own) (now rows)) × (r .length ≤ length (r .bytes)) ⌝ }
+    ensures { λ _. ⌜ Stands (taken (node (now (own .entry)) (now (rows .entry))) (take (r .length) (r .bytes)) .node) (node (now (own .exit)) (now (rows .exit))) ⌝ }
 {
     let bytes = r.bytes;
     let end = r.length;
-    let a = take(n, &bytes[..end]);
-    a.node
+    take(own, rows, &bytes[..end]);
 }
 
 // A number above 63 counts as 63.
@@ -44,36 +51,51 @@ pub(crate) fn capped(stations: u32) -> u8
 }
 
 // Station k is heard on both ringlets.
-fn join(n: Node, stations: u8, k: u8) -> Node
-    requires { ⌜ Kept n × (1 ≤ k) × (k ≤ stations) × (stations ≤ 63) ⌝ }
-    ensures { λ r. ⌜ Stands (joined stations k n) r ⌝ }
+fn join(own: &mut [u64; OWN_WORDS], rows: &mut [u64; ROW_WORDS], stations: u8, k: u8)
+    requires { ⌜ Kept (node (now own) (now rows)) × (1 ≤ k) × (k ≤ stations) × (stations ≤ 63) ⌝ }
+    ensures { λ _. ⌜ Stands (joined stations k (node (now (own .entry)) (now (rows .entry)))) (node (now (own .exit)) (now (rows .exit))) ⌝ }
 {
-    let west = report(0, k, 1, k);
-    let east = report(1, stations + 1 - k, 1, k);
-    after(after(n, west), east)
+    after(own, rows, report(0, k, 1, k));
+    after(own, rows, report(1, stations + 1 - k, 1, k));
 }
 
 // The ring of so many stations.
-pub(crate) fn ring(stations: u8) -> Node
+pub(crate) fn ring(own: &mut [u64; OWN_WORDS], rows: &mut [u64; ROW_WORDS], stations: u8)
     requires { ⌜ stations ≤ 63 ⌝ }
-    ensures { λ r. ⌜ Stands (ringOf stations) r ⌝ }
+    ensures { λ _. ⌜ Stands (ringOf stations) (node (now (own .exit)) (now (rows .exit))) ⌝ }
 {
     let settings = SETTINGS;
-    let begun = controller::start(&settings);
-    let mut n = begun.node;
+    controller::start(&settings, own, rows);
     let mut k: u8 = 0;
     while k < stations {
         k += 1;
-        let next = join(n, stations, k);
-        n = next;
+        join(own, rows, stations, k);
     }
-    n
+}
+
+// The hop of station 1 on ringlet 1.
+fn last_hop(stations: u8) -> u8
+    ensures { λ r. ⌜ (r ≡ cond (eqb stations 0) 1 stations) × (1 ≤ r) ⌝ }
+{
+    if stations == 0 {
+        return 1;
+    }
+    stations
+}
+
+// Station 2 takes the hop of station 1 on ringlet 1.
+pub(crate) fn part(own: &mut [u64; OWN_WORDS], rows: &mut [u64; ROW_WORDS], stations: u8)
+    requires { ⌜ Kept (node (now own) (now rows)) ⌝ }
+    ensures { λ _. ⌜ Stands (parted stations (node (now (own .entry)) (now (rows .entry)))) (node (now (own .exit)) (now (rows .exit))) ⌝ }
+{
+    after(own, rows, report(1, last_hop(stations), 1, 2));
 }
 
 // FS from the operator on both spans.
-pub(crate) fn force(n: Node) -> Node
-    requires { ⌜ Kept n ⌝ }
-    ensures { λ r. ⌜ Stands (forced n) r ⌝ }
+pub(crate) fn force(own: &mut [u64; OWN_WORDS], rows: &mut [u64; ROW_WORDS])
+    requires { ⌜ Kept (node (now own) (now rows)) ⌝ }
+    ensures { λ _. ⌜ Stands (forced (node (now (own .entry)) (now (rows .entry)))) (node (now (own .exit)) (now (rows .exit))) ⌝ }
 {
-    after(after(n, brief(4, 4, 0, 5)), brief(4, 4, 1, 5))
+    after(own, rows, brief(4, 4, 0, 5));
+    after(own, rows, brief(4, 4, 1, 5));
 }

@@ -1,12 +1,13 @@
 // The loops of the runs: one record, or one question, many times.
 use crate::ring::take;
-use controller::Node;
+use controller::OWN_WORDS;
+use controller::ROW_WORDS;
 ghost use mathlib.Core.Path.{_≡_};
 ghost use mathlib.Core.Bool.{cond};
 ghost use Prim.Native.Nat.{_+_, _*_, _^_, _<_};
 ghost use Rattle.ways.specs.Choice.{number};
 ghost use Rattle.controller.specs.Kept.{Kept};
-ghost use Rattle.controller.specs.Node.{stateOf, steered, asked};
+ghost use Rattle.controller.specs.Node.{node, stateOf, steered, asked};
 ghost use Rattle.bench.specs.Runs.{told, carried, weighed};
 
 // The result, and 256 for a report that was written.
@@ -20,19 +21,21 @@ fn told(result: u8, wrote: bool) -> u64
 }
 
 // The same record many times, each with the node that the one before left.
-pub(crate) fn carry(start: Node, bytes: &[u8], calls: u32) -> u64
-    requires { ⌜ Kept start ⌝ }
-    ensures { λ r. ⌜ r ≡ carried (now (bytes .entry)) calls start ⌝ }
+pub(crate) fn carry(
+    own: &mut [u64; OWN_WORDS],
+    rows: &mut [u64; ROW_WORDS],
+    bytes: &[u8],
+    calls: u32,
+) -> u64
+    requires { ⌜ Kept (node (now own) (now rows)) ⌝ }
+    ensures { λ r. ⌜ r ≡ carried (now (bytes .entry)) calls (node (now (own .entry)) (now (rows .entry))) ⌝ }
 {
-    let mut n = start;
     let mut left = calls;
     let mut sum: u64 = 0;
     while 0 < left {
         left -= 1;
-        let a = take(n, bytes);
+        let a = take(own, rows, bytes);
         sum += told(a.result, a.wrote);
-        let next = a.node;
-        n = next;
     }
     sum
 }
@@ -46,46 +49,56 @@ fn still(address: u64, sum: u64) -> u64
 }
 
 // The number of the way to an address.
-fn way_number(n: Node, address: u64) -> u64
-    requires { ⌜ Kept n ⌝ }
-    ensures { λ r. ⌜ (r ≡ number (steered (stateOf n) address)) × (r < 512) ⌝ }
+fn way_number(own: &[u64; OWN_WORDS], rows: &[u64; ROW_WORDS], address: u64) -> u64
+    requires { ⌜ Kept (node (now own) (now rows)) ⌝ }
+    ensures { λ r. ⌜ (r ≡ number (steered (stateOf (node (now (own .entry)) (now (rows .entry)))) address)) × (r < 512) ⌝ }
 {
-    ways::number(controller::steer(n, address)) as u64
+    ways::number(controller::steer(own, rows, address)) as u64
 }
 
 // The way to an address, asked many times.
-pub(crate) fn steer_all(n: Node, address: u64, calls: u32) -> u64
-    requires { ⌜ Kept n ⌝ }
-    ensures { λ r. ⌜ r ≡ calls * number (steered (stateOf n) address) ⌝ }
+pub(crate) fn steer_all(
+    own: &[u64; OWN_WORDS],
+    rows: &[u64; ROW_WORDS],
+    address: u64,
+    calls: u32,
+) -> u64
+    requires { ⌜ Kept (node (now own) (now rows)) ⌝ }
+    ensures { λ r. ⌜ r ≡ calls * number (steered (stateOf (node (now (own .entry)) (now (rows .entry)))) address) ⌝ }
 {
     let mut left = calls;
     let mut sum: u64 = 0;
     while 0 < left {
         left -= 1;
-        sum += way_number(n, still(address, sum));
+        sum += way_number(own, rows, still(address, sum));
     }
     sum
 }
 
 // The reply and the first weight of an address.
-fn shown_sum(n: Node, address: u64) -> u64
-    requires { ⌜ Kept n ⌝ }
-    ensures { λ r. ⌜ (r ≡ weighed (asked (stateOf n) address)) × (r < 512) ⌝ }
+fn shown_sum(own: &[u64; OWN_WORDS], rows: &[u64; ROW_WORDS], address: u64) -> u64
+    requires { ⌜ Kept (node (now own) (now rows)) ⌝ }
+    ensures { λ r. ⌜ (r ≡ weighed (asked (stateOf (node (now (own .entry)) (now (rows .entry)))) address)) × (r < 512) ⌝ }
 {
-    let s = controller::attributes(n, address);
+    let s = controller::attributes(own, rows, address);
     s.reply as u64 + s.weight0 as u64
 }
 
 // The attributes of an address, asked many times.
-pub(crate) fn show_all(n: Node, address: u64, calls: u32) -> u64
-    requires { ⌜ Kept n ⌝ }
-    ensures { λ r. ⌜ r ≡ calls * weighed (asked (stateOf n) address) ⌝ }
+pub(crate) fn show_all(
+    own: &[u64; OWN_WORDS],
+    rows: &[u64; ROW_WORDS],
+    address: u64,
+    calls: u32,
+) -> u64
+    requires { ⌜ Kept (node (now own) (now rows)) ⌝ }
+    ensures { λ r. ⌜ r ≡ calls * weighed (asked (stateOf (node (now (own .entry)) (now (rows .entry)))) address) ⌝ }
 {
     let mut left = calls;
     let mut sum: u64 = 0;
     while 0 < left {
         left -= 1;
-        sum += shown_sum(n, still(address, sum));
+        sum += shown_sum(own, rows, still(address, sum));
     }
     sum
 }

@@ -9,7 +9,9 @@ use Rattle.settings.specs.Ticks.{ticksOf}
 use Rattle.settings.specs.Ranges.{inRange}
 use Rattle.settings.specs.Reading.{fieldsOf, fullIn, settingsIn}
 use Rattle.stations.specs.Table.{blank, tableOf}
+use Rattle.stations.specs.Rows.{tableIn}
 use Rattle.controller.specs.Reading.{Refused, reading}
+use Rattle.controller.specs.Own.{ownOf}
 use Rattle.controller.specs.Node.{startedWith}
 use Rattle.controller.specs.Drill.{reports, settingsRecord, records}
 
@@ -20,7 +22,7 @@ drill-starts = refl
 pub drill-reports : reports (startedWith settingsRecord .node) records
     ≡ (5 ∷ 0 ∷ 16 ∷ 0 ∷ 1 ∷ 4 ∷ 0 ∷ []) ∷ (5 ∷ 0 ∷ 16 ∷ 0 ∷ 2 ∷ 0 ∷ 0 ∷ []) ∷ [] ∷ [] ∷ [] ∷ (5 ∷ 0 ∷ 16 ∷ 0 ∷ 3 ∷ 2 ∷ 0 ∷ [])
     ∷ (5 ∷ 0 ∷ 16 ∷ 0 ∷ 4 ∷ 3 ∷ 0 ∷ []) ∷ [] ∷ []
-unfolding reports startedWith settingsIn headOf broken fullIn fieldsOf inRange addressAt tableOf ticksOf blank reportBytes
+unfolding reports startedWith settingsIn headOf broken fullIn fieldsOf inRange addressAt tableOf tableIn ticksOf blank reportBytes ownOf
 drill-reports = refl
 
 -- 1 before 2: no byte of a record, and a room of six.

@@ -3,9 +3,12 @@ pub mod ReadKept
 pub mod Handled
 pub mod Holding
 pub mod Reports
+pub mod Packing
+pub mod Fitting
 pub mod Nodes
 pub mod Examples
 pub mod Judging
+pub mod Handing
 pub mod Sweeping
 pub mod Records
 pub mod Asking

@@ -1,7 +1,7 @@
 -- A record put together from the code's steps, each known by its equation. Assumes nothing.
 use Prim.Native.Nat.{ℕ, _<_, _≤_, _^_}
 use mathlib.Core.Path.{_≡_, refl, sym, _∙_, ap, subst}
-use mathlib.Core.Bool.{Bool, true, false, cond, false≢true}
+use mathlib.Core.Bool.{Bool, true, false, cond}
 use mathlib.Core.List.{List, []}
 use native.Mathlib.Omega.{arith}
 use lib.ListN.{length}
@@ -9,33 +9,36 @@ use lib.Dec.{leb}
 use borrow.Author.Tests.{lt-ltb, le-ltb}
 use Rattle.wire.specs.Fields.{Bytes}
 use Rattle.wire.specs.Report.{over}
-use Rattle.settings.specs.declared.choice.Ticks.{Ticks}
+use Rattle.settings.specs.declared.choice.Settings.{Settings}
 use Rattle.settings.specs.Ticks.{ticksOf}
 use Rattle.pacer.specs.declared.steps.Paced.{Paced}
-use Rattle.spans.specs.Requests.{down}
 use Rattle.stations.specs.declared.station.Station.{Station}
-use Rattle.stations.specs.declared.table.Table.{Table}
-use Rattle.stations.specs.declared.hear.Hearing.{Hearing}
 use Rattle.stations.specs.Hearing.{Placed}
-use Rattle.stations.specs.Table.{TableKept, live, tableOf, hearingOf}
-use Rattle.stations.proofs.Tables.{live-of, kept-table}
-use Rattle.controller.specs.Reading.{Reading, Refused, Tick, Link, Keepalive, Operator, Heard, Block, blockOf, readIn, reading}
-use Rattle.controller.specs.State.{Choice, Spans}
-use Rattle.controller.specs.Handling.{acted, gives, judged}
-use Rattle.controller.specs.Closing.{settled, purgedIf, swept, pacing, isTick, reportOf}
+use Rattle.stations.specs.Rows.{RowsKept, stationsIn, rowsOf, Left, left, leftBy}
+use Rattle.stations.proofs.Telling.{stations-rows}
+use Rattle.controller.specs.Reading.{Reading, Refused, blockOf, readIn, reading}
+use Rattle.controller.specs.State.{Spans}
+use Rattle.controller.specs.Handling.{acted, judged}
+use Rattle.controller.specs.Closing.{settled, swept, pacing, isTick, reportOf}
 use Rattle.controller.specs.Record.{Outcome, refusal, closed, outcomeOf, outcome}
-use Rattle.controller.specs.Node.{Core, Node, Started, Answer, choiceOf, spansIn, withSpans, stateOf, startedWith, answerOf}
-use Rattle.controller.specs.Kept.{Kept}
+use Rattle.controller.specs.Own.{settingsOn, choiceOn, ticksOn, spansOn, pacerOn, ownOf}
+use Rattle.controller.specs.Node.{Node, Started, Answer, choiceOf, settingsOf, node, answerIn, stateOf, startedWith, answerOf, wrote}
+use Rattle.controller.specs.Kept.{Kept, ReadingKept}
 use Rattle.controller.specs.Promise.{Begun, Recorded}
-use Rattle.controller.specs.Steps.{leavesTable, passing, reportIn, pacedIn, refusedWith, TookReading}
-use Rattle.controller.specs.declared.close.Closed.{Closed}
-use Rattle.controller.specs.Kept.{ReadingKept}
+use Rattle.controller.specs.Steps.{OwnHeld, Settled, pacedIn, Reported, TookReading}
+use Rattle.controller.proofs.Packing.{own-settings, own-spans, own-pacer, on-settings, on-pacer, settled-none}
+use Rattle.controller.proofs.ReadKept.{read-in-kept}
 use Rattle.controller.proofs.Handled.{judged-kept}
+use Rattle.controller.proofs.Handing.{judged-settled, refused-leaves}
 use Rattle.controller.proofs.Reports.{wrote-is}
-use Rattle.controller.proofs.Nodes.{answer-kept, started-with-kept, refused-same}
+use Rattle.controller.proofs.Nodes.{ages-fit, answer-shows, answer-kept, started-with-shows, started-with-kept, refused-same, kept-own}
 
 pub begun : (b : List ℕ) (r : Started) → Bytes b → r ≡ startedWith b → Begun b r
-begun b r bytes e = record { is = e; kept = rw e (started-with-kept b bytes) }
+begun b r bytes e = record {
+  is = e;
+  shows = ap (λ (x : Started). stateOf (x .node)) e ∙ started-with-shows b bytes;
+  kept = rw e (started-with-kept b bytes);
+}
 
 -- Nothing laid over a buffer leaves it.
 pub over-none : (old : List ℕ) → old ≡ over [] old
@@ -46,146 +49,162 @@ over-none old = go (leb 0 (length old))
     go true = refl
     go false = refl
 
--- A record that passes leaves the stations, and nothing is purged.
-module _ (c : Choice) (r : Reading) (b : List ℕ) (x : Spans) (l : List Station) (t : Ticks) (y : Spans) where
-  leaves-judged : leavesTable r ≡ true → judged c r b x l ≡ gives 0 l
-  unfolding judged
-  leaves-judged = go r
-    where
-      go : (q : Reading) → leavesTable q ≡ true → judged c q b x l ≡ gives 0 l
-      go (Refused i) h = absurd (false≢true h)
-      go Tick h = absurd (false≢true h)
-      go (Link n status) h = refl
-      go (Keepalive n) h = refl
-      go (Operator n request) h = refl
-      go (Heard n p) h = absurd (false≢true h)
-      go (Block n a) h = absurd (false≢true h)
-
-  passing-judged : passing t r y ≡ true → judged c r b x l ≡ gives 0 l
-  unfolding passing
-  passing-judged h = go (down t (y .west)) (down t (y .east)) h
-    where
-      go : (w e : Bool) → cond w false (cond e false (leavesTable r)) ≡ true → judged c r b x l ≡ gives 0 l
-      go true e h = absurd (false≢true h)
-      go false true h = absurd (false≢true h)
-      go false false h = leaves-judged h
-
-passing-swept : (t : Ticks) (r : Reading) (y : Spans) (l : List Station) → passing t r y ≡ true → swept t y l ≡ l
-unfolding passing swept
-passing-swept t r y l h = go (down t (y .west)) (down t (y .east)) h
-  where
-    go : (w e : Bool) → cond w false (cond e false (leavesTable r)) ≡ true → purgedIf e 1 (purgedIf w 0 l) ≡ l
-    go true e h = absurd (false≢true h)
-    go false true h = absurd (false≢true h)
-    go false false h = refl
-
-module _ (n : Node) (k : Kept n) (r : Reading) (block : List ℕ) where
-  abbrev ticks : Ticks
-  ticks = ticksOf (n .core .settings)
+module _ {own rows : List ℕ} (k : Kept (node own rows)) (r : Reading) (block : List ℕ) where
+  abbrev c : Settings
+  c = settingsOn own
 
   abbrev spans : Spans
-  spans = acted ticks r (spansIn (n .core))
-
-  abbrev placed : Placed
-  placed = judged (choiceOf (n .core .settings)) r block spans (live (n .table))
+  spans = acted (ticksOn own) r (spansOn own)
 
   abbrev settles : Spans
-  settles = settled ticks (spansIn (n .core)) spans
+  settles = settled (ticksOn own) (spansOn own) spans
+
+  abbrev placed : Placed
+  placed = judged (choiceOn own) r block spans (stationsIn rows)
 
   abbrev paces : Paced
-  paces = pacing ticks (isTick r) settles (n .core .pacer)
+  paces = pacing (ticksOn own) (isTick r) settles (pacerOn own)
 
-  pub forget-fits : {t : Ticks} → t ≡ ticks → t .forget < 2 ^ 16
-  forget-fits e = rw e (omega (arith, k .state .ticks .forget))
+  -- The handler and the WTR step left the words own1.
+  module _ {own1 : List ℕ} (s : Settled spans own own1) where
+    settings1 : settingsOn own1 ≡ c
+    settings1 = own-settings c settles (pacerOn own) (s .words) (on-settings own)
 
-  -- The handler's part of the core, with the ticks that it used.
-  module _ {t : Ticks} {d : Core} (et : t ≡ ticks) (ed : d ≡ withSpans (acted t r (spansIn (n .core))) (n .core)) where
-    module _ {h : Hearing} (eh : h ≡ hearingOf (judged (choiceOf (d .settings)) r block (spansIn d) (live (n .table)))) where
-      heard : h ≡ hearingOf placed
-      heard = eh ∙ rw (ed, et)
+    spans1 : spansOn own1 ≡ settles
+    spans1 = own-spans c settles (pacerOn own) (s .words) (s .fits)
 
-      result-is : h .result ≡ placed .result
-      result-is = ap (λ (v : Hearing). v .result) heard
+    pacer1 : pacerOn own1 ≡ pacerOn own
+    pacer1 = own-pacer c settles (pacerOn own) (s .words) (on-pacer own)
 
-      pub judged-table : ReadingKept (n .core .settings .address) r → Bytes block → TableKept (h .table)
-      judged-table reads bytes =
-          let s = judged-kept (choiceOf (n .core .settings)) r block spans (live (n .table)) (k .state .ticks) reads bytes (k .state .stations) in
-          rw heard (kept-table (placed .stations) (s .few) (s .ascending))
+    pub own-held : OwnHeld own1
+    own-held = record {
+      whole =
+          s .words ∙ ap (λ (d : Settings). ownOf d settles (pacerOn own)) (sym settings1) ∙ ap (λ (y : Spans). ownOf (settingsOn own1) y (pacerOn own)) (sym spans1)
+          ∙ ap (ownOf (settingsOn own1) (spansOn own1)) (sym pacer1);
+    }
 
-      pub refused : refusal (h .result) ≡ true → (old : List ℕ) → TookReading n r block old old (refusedWith n (h .result))
+    pub forget-fits : ticksOn own1 .forget < 2 ^ 16
+    forget-fits = subst (λ (d : Settings). ticksOf d .forget < 2 ^ 16) (sym settings1) (omega (arith, k .state .ticks .forget))
+
+    -- The stations were judged by own1, and the words rows1 left.
+    module _ {rows1 : List ℕ} {h : ℕ} (j : left rows1 h ≡ leftBy (judged (choiceOn own1) r block (spansOn own1) (stationsIn rows))) where
+      left-is : left rows1 h ≡ leftBy placed
+      left-is =
+          j ∙ ap (λ (d : Settings). leftBy (judged (choiceOf d) r block (spansOn own1) (stationsIn rows))) settings1
+          ∙ ap (λ (y : Spans). leftBy (judged (choiceOn own) r block y (stationsIn rows))) spans1
+          ∙ ap leftBy (judged-settled (choiceOn own) r block (spansOn own) spans (stationsIn rows))
+
+      rows-is : rows1 ≡ rowsOf (placed .stations)
+      rows-is = ap (λ (q : Left). q .rows) left-is
+
+      result-is : h ≡ placed .result
+      result-is = ap (λ (q : Left). q .result) left-is
+
+      pub refused : refusal h ≡ true → (old : List ℕ)
+          → TookReading (node own rows) r block old old (answerIn own1 rows1 (record { result = h; wrote = false }))
       unfolding outcomeOf
       refused is-refused old =
-          let refuse : refusal (placed .result) ≡ true = rw result-is at is-refused in
+          let refuse : refusal (placed .result) ≡ true = sym (ap refusal result-is) ∙ is-refused in
+          let (untouched, calm) = refused-leaves (choiceOn own) r block (spansOn own) spans (stationsIn rows) refuse in
+          let own-same : own1 ≡ own =
+          s .words ∙ ap (λ (y : Spans). ownOf c (settled (ticksOn own) (spansOn own) y) (pacerOn own)) untouched
+          ∙ ap (λ (y : Spans). ownOf c y (pacerOn own)) (settled-none (ticksOn own) (spansOn own)) ∙ sym (kept-own k .whole) in
+          let rows-same : rows1 ≡ rows = rows-is ∙ ap rowsOf calm ∙ sym (ap (λ (m : Node). m .rows) (k .whole)) in
           record {
-            is = rw (result-is, refuse) (sym (refused-same n (placed .result) k));
+            is =
+                (λ i. answerIn (own-same i) (rows-same i) (record { result = result-is i; wrote = false }))
+                ∙ rw refuse (sym (refused-same (node own rows) (placed .result) k));
             content = rw refuse (over-none old);
           }
 
-    -- The closing steps, on a table u that was swept.
-    module _ {s : Core} {tick : Bool} {z : Closed} (es : s ≡ withSpans (settled t (spansIn (n .core)) (spansIn d)) d) (ek : tick ≡ isTick r)
-        (ez : z ≡ pacedIn t tick s) where
-      settled-is : s ≡ withSpans settles (n .core)
-      settled-is = es ∙ rw (ed, et)
+      module _ (reads : ReadingKept (c .address) r) (bytes : Bytes block) where
+        stations-left : RowsKept (rowsOf (placed .stations)) × (stationsIn (rowsOf (placed .stations)) ≡ placed .stations)
+        stations-left =
+            stations-rows (c .address) (ticksOn own .forget) (choiceOn own .known) (ages-fit (stateOf (node own rows)) (k .state)) (placed .stations)
+            (judged-kept (choiceOn own) r block spans (stationsIn rows) (k .state .ticks) reads bytes (k .state .stations))
 
-      closed-is : z ≡ pacedIn ticks (isTick r) (withSpans settles (n .core))
-      closed-is = ez ∙ rw (et, ek, settled-is)
+        pub rows-kept : RowsKept rows1
+        rows-kept = subst RowsKept (sym rows-is) (stations-left .0)
 
-      report-is : reportIn z ≡ reportOf paces
-      unfolding pacedIn
-      report-is = ap reportIn closed-is
+        stations1 : stationsIn rows1 ≡ placed .stations
+        stations1 = ap stationsIn rows-is ∙ stations-left .1
 
-      -- A record that is not refused, with the stations that its handler left.
-      closes : refusal (placed .result) ≡ false → (u : Table) → u ≡ tableOf (swept ticks settles (placed .stations)) → (old new : List ℕ)
-          → new ≡ over (reportIn z) old
-          → TookReading n r block old new (record { node = record { core = z .core; table = u }; result = placed .result; wrote = z .wrote })
-      unfolding outcomeOf closed pacedIn
-      closes take u eu old new e = record {
-        is = rw (closed-is, eu, take, wrote-is paces);
-        content = e ∙ rw (report-is, take);
-      }
+        -- The last step, and the purges.
+        module _ {tick reported : Bool} {own2 old new : List ℕ} (ticks : tick ≡ isTick r) (p : Reported tick own1 own2 old new reported) where
+          paced-is : pacedIn tick own1 ≡ paces
+          paced-is =
+              ap (λ (b : Bool). pacedIn b own1) ticks
+              ∙ ap (λ (d : Settings). pacing (ticksOf d) (isTick r) (spansOn own1) (pacerOn own1)) settings1
+              ∙ ap (λ (y : Spans). pacing (ticksOn own) (isTick r) y (pacerOn own1)) spans1
+              ∙ ap (pacing (ticksOn own) (isTick r) settles) pacer1
 
-      pub taken : {h : Hearing} {u : Table} → h ≡ hearingOf (judged (choiceOf (d .settings)) r block (spansIn d) (live (n .table)))
-          → refusal (h .result) ≡ false → u ≡ tableOf (swept t (spansIn s) (live (h .table))) → (old new : List ℕ) → new ≡ over (reportIn z) old
-          → TookReading n r block old new (record { node = record { core = z .core; table = u }; result = h .result; wrote = z .wrote })
-      taken {h} {u} eh is-taken eu old new e =
-          rw (result-is eh)
-          (closes (rw (result-is eh) at is-taken) u (eu ∙ rw (et, settled-is, heard eh, live-of (placed .stations))) old new e)
+          own-is : own2 ≡ ownOf c settles (paces .pacer)
+          own-is =
+              p .words ∙ ap (λ (d : Settings). ownOf d (spansOn own1) (pacedIn tick own1 .pacer)) settings1
+              ∙ ap (λ (y : Spans). ownOf c y (pacedIn tick own1 .pacer)) spans1 ∙ ap (λ (q : Paced). ownOf c settles (q .pacer)) paced-is
 
-      -- A record that leaves the table alone.
-      pub passed : passing t r (spansIn s) ≡ true → (old new : List ℕ) → new ≡ over (reportIn z) old
-          → TookReading n r block old new (record { node = record { core = z .core; table = n .table }; result = 0; wrote = z .wrote })
-      passed p old new e =
-          let q : passing ticks r settles ≡ true = rw (et, settled-is) at p in
-          let same : placed ≡ gives 0 (live (n .table)) = passing-judged (choiceOf (n .core .settings)) r block spans (live (n .table)) ticks settles q in
-          let whole : n .table ≡ tableOf (swept ticks settles (placed .stations)) =
-          k .table .whole ∙ ap tableOf (sym (ap (λ (x : Placed). swept ticks settles (x .stations)) same ∙ passing-swept ticks r settles (live (n .table)) q)) in
-          subst (λ (m : ℕ). TookReading n r block old new (record { node = record { core = z .core; table = n .table }; result = m; wrote = z .wrote }))
-          (ap (λ (x : Placed). x .result) same)
-          (closes (ap (λ (x : Placed). refusal (x .result)) same) (n .table) whole old new e)
+          settings2 : settingsOn own2 ≡ c
+          settings2 = own-settings c settles (paces .pacer) own-is (on-settings own)
 
-module _ (n : Node) (k : Kept n) (b old : List ℕ) where
-  pub no-room : length old < 7 → Recorded n b old old (refusedWith n 1)
-  unfolding outcome reading outcomeOf judged
-  no-room h = record {
-    is = rw (lt-ltb (length old) 7 h) (sym (refused-same n 1 k));
-    content = rw (lt-ltb (length old) 7 h) (over-none old);
-    kept = k;
+          spans2 : spansOn own2 ≡ settles
+          spans2 = own-spans c settles (paces .pacer) own-is (s .fits)
+
+          swept-is : {rows2 : List ℕ} → rows2 ≡ rowsOf (swept (ticksOn own2) (spansOn own2) (stationsIn rows1))
+              → rows2 ≡ rowsOf (swept (ticksOn own) settles (placed .stations))
+          swept-is e =
+              e ∙ ap (λ (d : Settings). rowsOf (swept (ticksOf d) (spansOn own2) (stationsIn rows1))) settings2
+              ∙ ap (λ (y : Spans). rowsOf (swept (ticksOn own) y (stationsIn rows1))) spans2
+              ∙ ap (λ (l : List Station). rowsOf (swept (ticksOn own) settles l)) stations1
+
+          reported-is : reported ≡ wrote (reportOf paces)
+          reported-is = p .wrote ∙ ap (λ (q : Paced). q .wrote) paced-is ∙ sym (wrote-is paces)
+
+          pub taken : {rows2 : List ℕ} → refusal h ≡ false → rows2 ≡ rowsOf (swept (ticksOn own2) (spansOn own2) (stationsIn rows1))
+              → TookReading (node own rows) r block old new (answerIn own2 rows2 (record { result = h; wrote = reported }))
+          unfolding outcomeOf closed
+          taken is-taken e =
+              let take : refusal (placed .result) ≡ false = sym (ap refusal result-is) ∙ is-taken in
+              record {
+                is = (λ i. answerIn (own-is i) (swept-is e i) (record { result = result-is i; wrote = reported-is i })) ∙ rw take;
+                content = p .content ∙ ap (λ (q : Paced). over (reportOf q) old) paced-is ∙ rw take;
+              }
+
+module _ (n : Node) (k : Kept n) (b old : List ℕ) (bytes : Bytes b) where
+  -- What shows and is kept follows from the answer.
+  promised : {new : List ℕ} {a : Answer} → a ≡ answerOf n (outcome (stateOf n) b (length old))
+      → new ≡ over (outcome (stateOf n) b (length old) .report) old → Recorded n b old new a
+  promised is content = record {
+    is = is;
+    shows = ap (λ (x : Answer). stateOf (x .node)) is ∙ answer-shows n b (length old) bytes k;
+    content = content;
+    kept = rw is (answer-kept n b (length old) bytes k);
   }
 
-  enough : 7 ≤ length old → reading (n .core .settings .address) b (length old) ≡ readIn (n .core .settings .address) b
+  pub no-room : length old < 7 → Recorded n b old old (record { node = n; result = 1; wrote = false })
+  unfolding outcome reading outcomeOf judged
+  no-room h = promised (rw (lt-ltb (length old) 7 h) (sym (refused-same n 1 k))) (rw (lt-ltb (length old) 7 h) (over-none old))
+
+  enough : 7 ≤ length old → reading (settingsOf n .address) b (length old) ≡ readIn (settingsOf n .address) b
   unfolding reading
   enough room = rw (le-ltb (length old) 7 room)
 
-  pub recorded : (r : Reading) (block new : List ℕ) (a : Answer) → Bytes b → 7 ≤ length old → r ≡ readIn (n .core .settings .address) b
-      → block ≡ blockOf b → TookReading n r block old new a → Recorded n b old new a
-  unfolding outcome
-  recorded r block new a bytes room er eb v =
-      let same : outcome (stateOf n) b (length old) ≡ outcomeOf r block (stateOf n) =
-      ap (λ (x : Reading). outcomeOf x (blockOf b) (stateOf n)) (enough room ∙ sym er)
-      ∙ ap (λ (x : List ℕ). outcomeOf r x (stateOf n)) (sym eb) in
-      let is : a ≡ answerOf n (outcome (stateOf n) b (length old)) = v .is ∙ ap (answerOf n) (sym same) in
-      record {
-        is = is;
-        content = v .content ∙ ap (λ (o : Outcome). over (o .report) old) (sym same);
-        kept = rw is (answer-kept n b (length old) bytes k);
-      }
+  -- A reading that is refused.
+  untaken : (block : List ℕ) (i : ℕ) → refusal i ≡ true → TookReading n (Refused i) block old old (record { node = n; result = i; wrote = false })
+  unfolding outcomeOf judged
+  untaken block i h = record { is = rw h (sym (refused-same n i k)); content = rw h (over-none old) }
+
+  module _ (r : Reading) (room : 7 ≤ length old) (er : r ≡ readIn (settingsOf n .address) b) where
+    pub recorded : {block new : List ℕ} {a : Answer} → block ≡ blockOf b → TookReading n r block old new a → Recorded n b old new a
+    unfolding outcome
+    recorded {block} {new} {a} eb v =
+        let same : outcome (stateOf n) b (length old) ≡ outcomeOf r block (stateOf n) =
+        ap (λ (x : Reading). outcomeOf x (blockOf b) (stateOf n)) (enough room ∙ sym er)
+        ∙ ap (λ (x : List ℕ). outcomeOf r x (stateOf n)) (sym eb) in
+        promised (v .is ∙ ap (answerOf n) (sym same)) (v .content ∙ ap (λ (o : Outcome). over (o .report) old) (sym same))
+
+    -- A record that was refused when it was read.
+    pub early : {i : ℕ} → r ≡ Refused i → Recorded n b old old (record { node = n; result = i; wrote = false })
+    early {i} e =
+        recorded refl
+        (subst (λ (q : Reading). TookReading n q (blockOf b) old old (record { node = n; result = i; wrote = false })) (sym e)
+        (untaken (blockOf b) i (subst (ReadingKept (settingsOf n .address)) (sym er ∙ e) (read-in-kept (settingsOf n .address) b bytes))))

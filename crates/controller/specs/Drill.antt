@@ -3,12 +3,13 @@ use Prim.Native.Nat.{ℕ}
 use mathlib.Core.List.{List, [], _∷_}
 use Rattle.spans.specs.Requests.{request}
 use Rattle.stations.specs.Table.{tableOf}
+use Rattle.stations.specs.Rows.{image}
 use Rattle.controller.specs.Record.{outcome}
 use Rattle.controller.specs.Node.{Node, stateOf, answerOf}
 
 -- The reports that records give.
 unfoldable pub reports : Node → List (List ℕ) → List (List ℕ)
-unfolding outcome tableOf
+unfolding outcome tableOf image
 reports n [] = []
 reports n (b ∷ l) = outcome (stateOf n) b 7 .report ∷ reports (answerOf n (outcome (stateOf n) b 7) .node) l
 

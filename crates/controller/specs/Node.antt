@@ -1,4 +1,4 @@
--- The node as the program keeps it, and what its calls answer.
+-- The node as the program keeps it, in words that the caller lends, and what its calls answer.
 use Prim.Native.Nat.{ℕ}
 use mathlib.Core.Bool.{Bool, cond}
 use mathlib.Core.List.{List}
@@ -6,50 +6,65 @@ use mathlib.Core.Option.{Option, none, some}
 use lib.ListN.{length}
 use lib.Dec.{ltb}
 use Rattle.settings.specs.declared.choice.Settings.{Settings}
-use Rattle.settings.specs.Ticks.{ticksOf}
 use Rattle.settings.specs.Reading.{settingsIn}
 use Rattle.spans.specs.Requests.{request}
 use Rattle.blocks.specs.declared.attributes.Attributes.{Attributes}
-use Rattle.blocks.specs.Types.{knows}
 use Rattle.stations.specs.Stations.{attributesOf}
-use Rattle.stations.specs.Table.{live, tableOf}
+use Rattle.stations.specs.Rows.{stationsIn, rowsOf}
 use Rattle.ways.specs.declared.choice.Reply.{Reply}
 use Rattle.ways.specs.Choice.{wayTo}
-use Rattle.controller.specs.State.{Choice, Spans, State, started}
+use Rattle.controller.specs.State.{State, started}
 use Rattle.controller.specs.Record.{Outcome}
-pub use Rattle.controller.specs.declared.node.Core.{Core}
-pub use Rattle.controller.specs.declared.node.Node.{Node}
-pub use Rattle.controller.specs.declared.node.Started.{Started}
-pub use Rattle.controller.specs.declared.record.Answer.{Answer}
+use Rattle.controller.specs.Own.{settingsOn, choiceOn, spansOn, pacerOn, ownOf}
+pub use Rattle.controller.specs.Own.{choiceOf}
+pub use Rattle.controller.specs.declared.record.Returned.{Returned}
 pub use Rattle.controller.specs.declared.ask.Shown.{Shown}
 
-abbrev pub choiceOf : Settings → Choice
-choiceOf s = record { address = s .address; known = knows (s .level); ticks = ticksOf s }
+-- A node: the words of its own part, and those of its stations. No code holds them as one value.
+pub record Node : Type 0 where
+  pub own : List ℕ
+  pub rows : List ℕ
 
-abbrev pub spansIn : Core → Spans
-spansIn c = record { west = c .west; east = c .east }
+abbrev pub node : List ℕ → List ℕ → Node
+node own rows = record { own = own; rows = rows }
 
-abbrev pub withSpans : Spans → Core → Core
-withSpans x c = record { settings = c .settings; west = x .west; east = x .east; pacer = c .pacer }
+-- What start and a record leave in the words, and answer.
+pub record Started : Type 0 where
+  pub node : Node
+  pub result : ℕ
+
+pub record Answer : Type 0 where
+  pub node : Node
+  pub result : ℕ
+  pub wrote : Bool
+
+abbrev pub startedIn : List ℕ → List ℕ → ℕ → Started
+startedIn own rows result = record { node = node own rows; result = result }
+
+abbrev pub returned : ℕ → Bool → Returned
+returned result wrote = record { result = result; wrote = wrote }
+
+abbrev pub answerIn : List ℕ → List ℕ → Returned → Answer
+answerIn own rows r = record { node = node own rows; result = r .result; wrote = r .wrote }
+
+abbrev pub settingsOf : Node → Settings
+settingsOf n = settingsOn (n .own)
 
 -- What the rules see of a node.
 abbrev pub stateOf : Node → State
 stateOf n = record {
-  choice = choiceOf (n .core .settings);
-  spans = spansIn (n .core);
-  stations = live (n .table);
-  pacer = n .core .pacer;
+  choice = choiceOn (n .own);
+  spans = spansOn (n .own);
+  stations = stationsIn (n .rows);
+  pacer = pacerOn (n .own);
 }
 
 -- The node of these settings in a state.
 abbrev pub nodeOf : Settings → State → Node
-nodeOf c s = record {
-  core = record { settings = c; west = s .spans .west; east = s .spans .east; pacer = s .pacer };
-  table = tableOf (s .stations);
-}
+nodeOf c s = record { own = ownOf c (s .spans) (s .pacer); rows = rowsOf (s .stations) }
 
 abbrev pub nodeIn : Node → State → Node
-nodeIn n s = nodeOf (n .core .settings) s
+nodeIn n s = nodeOf (settingsOf n) s
 
 -- "Start gives 0, 2, 3 or 4; refused, its state is that of the default settings with address zero."
 unfoldable pub startedWith : List ℕ → Started

@@ -1,14 +1,18 @@
 // What may be asked of a node between records.
-use crate::node::Node;
+use crate::own::OWN_WORDS;
+use crate::own::pacer_in;
+use crate::own::span_in;
+use crate::own::ticks_in;
 use blocks::Attributes;
 use stations::Found;
+use stations::ROW_WORDS;
 use ways::Reply;
 ghost use mathlib.Core.Path.{_≡_};
 ghost use mathlib.Core.Bool.{cond};
 ghost use Rattle.controller.specs.Kept.{Kept};
 ghost use mathlib.Core.Option.{some};
 ghost use lib.ListN.{length};
-ghost use Rattle.controller.specs.Node.{stateOf, westRequest, eastRequest, steered, shown, asked};
+ghost use Rattle.controller.specs.Node.{node, stateOf, westRequest, eastRequest, steered, shown, asked};
 
 // The replies of `attributes`.
 const WITH_VALUES: u8 = 0;
@@ -29,15 +33,14 @@ pub struct Shown {
 }
 
 // The way to the station of an address; any number may be asked.
-pub fn steer(n: Node, address: u64) -> Reply
-    requires { ⌜ Kept n ⌝ }
-    ensures { λ r. ⌜ r ≡ steered (stateOf n) address ⌝ }
+pub fn steer(own: &[u64; OWN_WORDS], rows: &[u64; ROW_WORDS], address: u64) -> Reply
+    requires { ⌜ Kept (node (now own) (now rows)) ⌝ }
+    ensures { λ r. ⌜ r ≡ steered (stateOf (node (now (own .entry)) (now (rows .entry)))) address ⌝ }
 {
-    let c = n.core;
-    let t = c.settings.ticks();
-    let west = spans::request(c.west, t);
-    let east = spans::request(c.east, t);
-    ways::way_to(n.table, west, east, address)
+    let t = ticks_in(own);
+    let west = spans::request(span_in(own, 0), t);
+    let east = spans::request(span_in(own, 1), t);
+    ways::way_to(rows, west, east, address)
 }
 
 fn behind_number(behind: bool) -> u8
@@ -64,11 +67,11 @@ fn shown_of(x: Attributes) -> Shown
 }
 
 // The attributes of the station of an address; any number may be asked.
-pub fn attributes(n: Node, address: u64) -> Shown
-    requires { ⌜ Kept n ⌝ }
-    ensures { λ r. ⌜ r ≡ asked (stateOf n) address ⌝ }
+pub fn attributes(own: &[u64; OWN_WORDS], rows: &[u64; ROW_WORDS], address: u64) -> Shown
+    requires { ⌜ Kept (node (now own) (now rows)) ⌝ }
+    ensures { λ r. ⌜ r ≡ asked (stateOf (node (now (own .entry)) (now (rows .entry)))) address ⌝ }
 {
-    let f = stations::find_station(n.table, address);
+    let f = stations::find_station(rows, address);
     match f {
         Found::Nothing => Shown {
             kind: 0,
@@ -78,42 +81,39 @@ pub fn attributes(n: Node, address: u64) -> Shown
             weight1: 0,
             reply: UNKNOWN,
         },
-        Found::At(at) => shown_of(stations::attributes_at(n.table, at)),
+        Found::At(at) => shown_of(stations::attributes_at(rows, at)),
     }
 }
 
 // The request on the west span.
-pub fn west_request(n: Node) -> u8
-    requires { ⌜ Kept n ⌝ }
-    ensures { λ r. ⌜ r ≡ westRequest (stateOf n) ⌝ }
+pub fn west_request(own: &[u64; OWN_WORDS], rows: &[u64; ROW_WORDS]) -> u8
+    requires { ⌜ Kept (node (now own) (now rows)) ⌝ }
+    ensures { λ r. ⌜ r ≡ westRequest (stateOf (node (now (own .entry)) (now (rows .entry)))) ⌝ }
 {
-    let c = n.core;
-    spans::request(c.west, c.settings.ticks())
+    spans::request(span_in(own, 0), ticks_in(own))
 }
 
 // The request on the east span.
-pub fn east_request(n: Node) -> u8
-    requires { ⌜ Kept n ⌝ }
-    ensures { λ r. ⌜ r ≡ eastRequest (stateOf n) ⌝ }
+pub fn east_request(own: &[u64; OWN_WORDS], rows: &[u64; ROW_WORDS]) -> u8
+    requires { ⌜ Kept (node (now own) (now rows)) ⌝ }
+    ensures { λ r. ⌜ r ≡ eastRequest (stateOf (node (now (own .entry)) (now (rows .entry)))) ⌝ }
 {
-    let c = n.core;
-    spans::request(c.east, c.settings.ticks())
+    spans::request(span_in(own, 1), ticks_in(own))
 }
 
 // The own sequence: 0 at start, then that of the latest report.
-pub fn own_sequence(n: Node) -> u8
-    requires { ⌜ Kept n ⌝ }
-    ensures { λ r. ⌜ r ≡ stateOf n .pacer .sequence ⌝ }
+pub fn own_sequence(own: &[u64; OWN_WORDS], rows: &[u64; ROW_WORDS]) -> u8
+    requires { ⌜ Kept (node (now own) (now rows)) ⌝ }
+    ensures { λ r. ⌜ r ≡ stateOf (node (now (own .entry)) (now (rows .entry))) .pacer .sequence ⌝ }
 {
-    let c = n.core;
-    c.pacer.sequence
+    let p = pacer_in(own);
+    p.sequence
 }
 
 // The number of stations in the table.
-pub fn station_count(n: Node) -> usize
-    requires { ⌜ Kept n ⌝ }
-    ensures { λ r. ⌜ r ≡ length (stateOf n .stations) ⌝ }
+pub fn station_count(own: &[u64; OWN_WORDS], rows: &[u64; ROW_WORDS]) -> usize
+    requires { ⌜ Kept (node (now own) (now rows)) ⌝ }
+    ensures { λ r. ⌜ r ≡ length (stateOf (node (now (own .entry)) (now (rows .entry))) .stations) ⌝ }
 {
-    let t = n.table;
-    t.count
+    stations::station_count(rows)
 }

@@ -1,68 +1,61 @@
-// What a record does to the stations, and its result.
-use crate::act::span_of;
-use crate::node::Core;
+// What a record does to the stations, and its result. A refusal is decided before anything is stored.
+use crate::own::OWN_WORDS;
+use crate::own::level_in;
+use crate::own::span_in;
+use crate::own::ticks_in;
 use crate::reading::Reading;
 use blocks::Attributes;
 use blocks::Block;
-use settings::Ticks;
 use stations::Found;
-use stations::Hearing;
+use stations::ROW_WORDS;
 use stations::Report;
-use stations::Table;
 use wire::results;
 ghost use mathlib.Core.Path.{_≡_};
 ghost use Prim.Native.Nat.{_<_, _^_};
 ghost use Rattle.blocks.specs.Types.{knows};
 ghost use Rattle.blocks.specs.Meaning.{meaning};
-ghost use Rattle.stations.specs.Table.{TableKept, live, hearingOf};
-ghost use Rattle.settings.specs.Ticks.{ticksOf};
+ghost use Rattle.stations.specs.Table.{found};
+ghost use Rattle.stations.specs.declared.find.Found.the-variants.{At};
+ghost use Rattle.stations.specs.Rows.{RowsKept, stationsIn, left, leftBy};
 ghost use Rattle.stations.specs.Stations.{aged, given};
 ghost use Rattle.controller.specs.Handling.{gives, hearing, taking, learning, judged};
-ghost use Rattle.controller.specs.Node.{choiceOf, spansIn};
-
-fn same(t: Table, result: u8) -> Hearing
-    requires { ⌜ TableKept t ⌝ }
-    ensures { λ r. ⌜ r ≡ hearingOf (gives result (live t)) ⌝ }
-{
-    Hearing { table: t, result }
-}
+ghost use Rattle.controller.specs.Own.{choiceOn, ticksOn, spansOn};
 
 // A report heard: steps (b) and (c), then the table.
-fn hear(table: Table, c: Core, t: Ticks, n: u8, p: Report) -> Hearing
-    requires { ⌜ TableKept table ⌝ }
-    ensures { λ r. ⌜ r ≡ hearingOf (hearing t n p (spansIn c) (live table)) ⌝ }
+fn hear(rows: &mut [u64; ROW_WORDS], own: &[u64; OWN_WORDS], n: u8, p: Report) -> u8
+    requires { ⌜ RowsKept (now rows) ⌝ }
+    ensures { λ r. ⌜ left (now (rows .exit)) r ≡ leftBy (hearing (ticksOn (now (own .entry))) n p (spansOn (now (own .entry))) (stationsIn (now (rows .entry)))) ⌝ }
 {
     if p.ringlet == n {
-        if spans::down(span_of(c, n), t) {
-            return same(table, results::SPAN_DOWN);
+        if spans::down(span_in(own, n), ticks_in(own)) {
+            return results::SPAN_DOWN;
         }
-        return stations::hear_report(table, p);
+        return stations::hear_report(rows, p);
     }
-    same(table, results::WRONG_RINGLET)
+    results::WRONG_RINGLET
 }
 
-// The attributes of a block that was taken or set aside.
-fn give(table: Table, address: u64, x: Attributes, result: u8) -> Hearing
-    requires { ⌜ TableKept table ⌝ }
-    ensures { λ r. ⌜ r ≡ hearingOf (gives result (given address x (live table))) ⌝ }
+// The attributes of a block that was taken or set aside, to the station at a place.
+fn give(rows: &mut [u64; ROW_WORDS], address: u64, at: usize, x: Attributes, result: u8) -> u8
+    requires { ⌜ RowsKept (now rows) × (found address (stationsIn (now rows)) ≡ At at) ⌝ }
+    ensures { λ r. ⌜ left (now (rows .exit)) r ≡ leftBy (gives result (given address x (stationsIn (now (rows .entry))))) ⌝ }
 {
-    Hearing {
-        table: stations::give_attributes(table, address, x),
-        result,
-    }
+    stations::give_attributes(rows, at, x);
+    result
 }
 
-// A block heard of a station in the table.
-fn read_in(table: Table, address: u64, block: &[u8], level: u8) -> Hearing
-    requires { ⌜ TableKept table ⌝ }
-    ensures { λ r. ⌜ r ≡ hearingOf (taking address (meaning (knows level) (now (block .entry))) (live table)) ⌝ }
+// A block heard of the station at a place.
+fn read_in(rows: &mut [u64; ROW_WORDS], address: u64, at: usize, block: &[u8], level: u8) -> u8
+    requires { ⌜ RowsKept (now rows) × (found address (stationsIn (now rows)) ≡ At at) ⌝ }
+    ensures { λ r. ⌜ left (now (rows .exit)) r ≡ leftBy (taking address (meaning (knows level) (now (block .entry))) (stationsIn (now (rows .entry)))) ⌝ }
 {
     let read = blocks::read_block(block, level);
     match read {
-        Block::Malformed => same(table, results::MALFORMED),
+        Block::Malformed => results::MALFORMED,
         Block::Aside(kind) => give(
-            table,
+            rows,
             address,
+            at,
             Attributes::behind_with(kind),
             results::SET_ASIDE,
         ),
@@ -80,51 +73,62 @@ fn read_in(table: Table, address: u64, block: &[u8], level: u8) -> Hearing
                 weight1,
                 behind: false,
             };
-            give(table, address, x, results::TAKEN)
+            give(rows, address, at, x, results::TAKEN)
         }
     }
 }
 
 // Attributes heard: span down, then not in the table, then the block.
-fn learn(table: Table, c: Core, t: Ticks, n: u8, address: u64, block: &[u8]) -> Hearing
-    requires { ⌜ TableKept table ⌝ }
-    ensures { λ r. ⌜ r ≡ hearingOf (learning t n address (meaning (knows (c .settings .level)) (now (block .entry))) (spansIn c) (live table)) ⌝ }
+fn learn(
+    rows: &mut [u64; ROW_WORDS],
+    own: &[u64; OWN_WORDS],
+    n: u8,
+    address: u64,
+    block: &[u8],
+) -> u8
+    requires { ⌜ RowsKept (now rows) ⌝ }
+    ensures { λ r.
+        ⌜ left (now (rows .exit)) r ≡ leftBy (learning (ticksOn (now (own .entry))) n address (meaning (choiceOn (now (own .entry)) .known) (now (block .entry))) (spansOn (now (own .entry))) (stationsIn (now (rows .entry)))) ⌝ }
 {
-    if spans::down(span_of(c, n), t) {
-        return same(table, results::SPAN_DOWN);
+    if spans::down(span_in(own, n), ticks_in(own)) {
+        return results::SPAN_DOWN;
     }
-    let f = stations::find_station(table, address);
+    let f = stations::find_station(rows, address);
     match f {
-        Found::Nothing => same(table, results::NOT_IN_TABLE),
-        Found::At(_) => read_in(table, address, block, c.settings.level),
+        Found::Nothing => results::NOT_IN_TABLE,
+        Found::At(at) => read_in(rows, address, at, block, level_in(own)),
     }
 }
 
-fn forget(table: Table, t: Ticks) -> Hearing
-    requires { ⌜ TableKept table × (t .forget < 2 ^ 16) ⌝ }
-    ensures { λ r. ⌜ r ≡ hearingOf (gives 0 (aged (t .forget) (live table))) ⌝ }
+fn forget(rows: &mut [u64; ROW_WORDS], own: &[u64; OWN_WORDS]) -> u8
+    requires { ⌜ RowsKept (now rows) × (ticksOn (now own) .forget < 2 ^ 16) ⌝ }
+    ensures { λ r. ⌜ left (now (rows .exit)) r ≡ leftBy (gives 0 (aged (ticksOn (now (own .entry)) .forget) (stationsIn (now (rows .entry))))) ⌝ }
 {
-    Hearing {
-        table: stations::raise_ages(table, t.forget as u16),
-        result: results::TAKEN,
-    }
+    let t = ticks_in(own);
+    stations::raise_ages(rows, t.forget as u16);
+    results::TAKEN
 }
 
 // The result, and the stations after a record's handler.
-pub(crate) fn judge(table: Table, c: Core, t: Ticks, r: Reading, block: &[u8]) -> Hearing
-    requires { ⌜ TableKept table × (t ≡ ticksOf (c .settings)) × (t .forget < 2 ^ 16) ⌝ }
-    ensures { λ h. ⌜ h ≡ hearingOf (judged (choiceOf (c .settings)) r (now (block .entry)) (spansIn c) (live table)) ⌝ }
+pub(crate) fn judge(
+    rows: &mut [u64; ROW_WORDS],
+    own: &[u64; OWN_WORDS],
+    r: Reading,
+    block: &[u8],
+) -> u8
+    requires { ⌜ RowsKept (now rows) × (ticksOn (now own) .forget < 2 ^ 16) ⌝ }
+    ensures { λ h. ⌜ left (now (rows .exit)) h ≡ leftBy (judged (choiceOn (now (own .entry))) r (now (block .entry)) (spansOn (now (own .entry))) (stationsIn (now (rows .entry)))) ⌝ }
 {
     match r {
-        Reading::Refused(k) => same(table, k),
-        Reading::Tick => forget(table, t),
-        Reading::Link { span: _, status: _ } => same(table, results::TAKEN),
-        Reading::Keepalive(_) => same(table, results::TAKEN),
+        Reading::Refused(k) => k,
+        Reading::Tick => forget(rows, own),
+        Reading::Link { span: _, status: _ } => results::TAKEN,
+        Reading::Keepalive(_) => results::TAKEN,
         Reading::Operator {
             span: _,
             request: _,
-        } => same(table, results::TAKEN),
-        Reading::Heard { span, report } => hear(table, c, t, span, report),
-        Reading::Block { span, address } => learn(table, c, t, span, address, block),
+        } => results::TAKEN,
+        Reading::Heard { span, report } => hear(rows, own, span, report),
+        Reading::Block { span, address } => learn(rows, own, span, address, block),
     }
 }

@@ -1,48 +1,16 @@
-// A node: the small part apart from the table, so that handlers of spans and reports cannot touch the stations.
-use pacer::Pacer;
-use settings::Settings;
-use spans::Span;
-use stations::Table;
+// A node is two arrays of words that the caller lends: its own part, and its stations.
+use crate::own::OWN_WORDS;
+use crate::own::start_own;
+use stations::ROW_WORDS;
+ghost use Rattle.controller.specs.Node.{startedIn};
 ghost use Rattle.controller.specs.Promise.{Begun};
 
-#[repr(C)]
-pub struct Core {
-    pub settings: Settings,
-    pub west: Span,
-    pub east: Span,
-    pub pacer: Pacer,
-}
-
-#[repr(C)]
-pub struct Node {
-    pub core: Core,
-    pub table: Table,
-}
-
-#[repr(C)]
-pub struct Started {
-    pub node: Node,
-    pub result: u8,
-}
-
-// A node of the settings that a record brings; refused, of the default settings with address zero.
-pub fn start(bytes: &[u8]) -> Started
-    ensures { λ r. ⌜ Begun (now (bytes .entry)) r ⌝ }
+// A node of the settings that a record brings; refused, of the default settings with address zero. What the words held before does not matter.
+pub fn start(bytes: &[u8], own: &mut [u64; OWN_WORDS], rows: &mut [u64; ROW_WORDS]) -> u8
+    ensures { λ r. ⌜ Begun (now (bytes .entry)) (startedIn (now (own .exit)) (now (rows .exit)) r) ⌝ }
 {
     let read = settings::read_settings(bytes);
-    let chosen = read.settings;
-    let ticks = chosen.ticks();
-    let core = Core {
-        settings: chosen,
-        west: Span::at_start(),
-        east: Span::at_start(),
-        pacer: Pacer::at_start(ticks.fast),
-    };
-    Started {
-        node: Node {
-            core,
-            table: Table::empty(),
-        },
-        result: read.result,
-    }
+    start_own(own, read.settings);
+    stations::clear_table(rows);
+    read.result
 }

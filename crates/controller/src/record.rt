@@ -1,65 +1,52 @@
 // One record: read, handled, closed.
 use crate::act::act;
-use crate::close::Closed;
 use crate::close::is_tick;
-use crate::close::leaves_table;
 use crate::close::report_requests;
-use crate::close::settle;
 use crate::judge::judge;
-use crate::node::Core;
-use crate::node::Node;
+use crate::own::OWN_WORDS;
+use crate::own::address_in;
+use crate::own::span_in;
+use crate::own::ticks_in;
 use crate::reading::Reading;
 use crate::reading::read_record;
-use settings::Ticks;
-use stations::Table;
+use stations::ROW_WORDS;
 use wire::results;
 ghost use mathlib.Core.Path.{_≡_};
-ghost use Rattle.stations.specs.Table.{TableKept, live, tableOf};
+ghost use mathlib.Core.Bool.{false};
+ghost use Rattle.stations.specs.Rows.{RowsKept, stationsIn, rowsOf};
 ghost use Rattle.controller.specs.Closing.{swept};
 ghost use Rattle.controller.specs.Kept.{Kept, ReadingKept};
-ghost use Rattle.controller.specs.Node.{spansIn};
+ghost use Rattle.controller.specs.Node.{node, answerIn};
+ghost use Rattle.controller.specs.Own.{settingsOn, ticksOn, spansOn};
 ghost use Rattle.controller.specs.Promise.{Recorded};
 ghost use Rattle.controller.specs.Reading.{blockOf};
 ghost use Rattle.controller.specs.Record.{refusal};
-ghost use Rattle.controller.specs.Steps.{passing, reportIn, refusedWith, TookReading};
-ghost use Rattle.wire.specs.Report.{over};
+ghost use Rattle.controller.specs.Steps.{TookReading};
 
+// What a record is answered: its number, and whether a report stands at the front of the output.
 #[repr(C)]
-pub struct Answer {
-    pub node: Node,
+pub struct Returned {
     pub result: u8,
     pub wrote: bool,
 }
 
 // The purge of each ringlet whose span is down.
-fn sweep(table: Table, c: Core, t: Ticks) -> Table
-    requires { ⌜ TableKept table ⌝ }
-    ensures { λ r. ⌜ r ≡ tableOf (swept t (spansIn c) (live table)) ⌝ }
+fn sweep(rows: &mut [u64; ROW_WORDS], own: &[u64; OWN_WORDS])
+    requires { ⌜ RowsKept (now rows) ⌝ }
+    ensures { λ r. ⌜ now (rows .exit) ≡ rowsOf (swept (ticksOn (now (own .entry))) (spansOn (now (own .entry))) (stationsIn (now (rows .entry)))) ⌝ }
 {
-    if spans::down(c.west, t) {
-        let u = stations::purge_ringlet(table, 0);
-        if spans::down(c.east, t) {
-            return stations::purge_ringlet(u, 1);
+    let t = ticks_in(own);
+    let east = spans::down(span_in(own, 1), t);
+    if spans::down(span_in(own, 0), t) {
+        stations::purge_ringlet(rows, 0);
+        if east {
+            stations::purge_ringlet(rows, 1);
         }
-        return u;
+        return;
     }
-    if spans::down(c.east, t) {
-        return stations::purge_ringlet(table, 1);
+    if east {
+        stations::purge_ringlet(rows, 1);
     }
-    table
-}
-
-// The stations stay as they are, and no hop is purged: then the table need not be touched.
-fn passes(r: Reading, c: Core, t: Ticks) -> bool
-    ensures { λ q. ⌜ q ≡ passing t r (spansIn c) ⌝ }
-{
-    if spans::down(c.west, t) {
-        return false;
-    }
-    if spans::down(c.east, t) {
-        return false;
-    }
-    leaves_table(r)
 }
 
 // 1 to 8 are refusals.
@@ -72,61 +59,34 @@ fn is_refusal(result: u8) -> bool
     result <= 8
 }
 
-// The same node, and nothing written.
-fn refuse(n: Node, result: u8) -> Answer
-    ensures { λ a. ⌜ a ≡ refusedWith n result ⌝ }
+// A number, and nothing written.
+fn refuse(result: u8) -> Returned
+    ensures { λ a. ⌜ a ≡ record { result = result; wrote = false } ⌝ }
 {
     let wrote = false;
-    Answer {
-        node: n,
-        result,
-        wrote,
-    }
-}
-
-// The report that the closing steps give, at the front of the output.
-fn send(out: &mut [u8], z: Closed)
-    ensures { λ _. ⌜ now (out .exit) ≡ over (reportIn z) (now (out .entry)) ⌝ }
-{
-    if z.wrote {
-        let c = z.core;
-        let p = c.pacer;
-        wire::put_report(out, p.sequence, p.west, p.east);
-    }
+    Returned { result, wrote }
 }
 
 // A record that was read, with the block that it may carry; its report goes to the front of the output.
-fn take_reading(mut n: Node, r: Reading, block: &[u8], out: &mut [u8]) -> Answer
-    requires { ⌜ Kept n × ReadingKept (n .core .settings .address) r ⌝ }
-    ensures { λ a. ⌜ TookReading n r (now (block .entry)) (now (out .entry)) (now (out .exit)) a ⌝ }
+fn take_reading(
+    own: &mut [u64; OWN_WORDS],
+    rows: &mut [u64; ROW_WORDS],
+    r: Reading,
+    block: &[u8],
+    out: &mut [u8],
+) -> Returned
+    requires { ⌜ Kept (node (now own) (now rows)) × ReadingKept (settingsOn (now own) .address) r ⌝ }
+    ensures { λ a.
+        ⌜ TookReading (node (now (own .entry)) (now (rows .entry))) r (now (block .entry)) (now (out .entry)) (now (out .exit)) (answerIn (now (own .exit)) (now (rows .exit)) a) ⌝ }
 {
-    let c = n.core;
-    let t = c.settings.ticks();
-    let d = act(c, t, r);
-    let s = settle(d, c, t);
-    let z = report_requests(s, t, is_tick(r));
-    let core = z.core;
-    let wrote = z.wrote;
-    if passes(r, s, t) {
-        send(out, z);
-        n.core = core;
-        return Answer {
-            node: n,
-            result: results::TAKEN,
-            wrote,
-        };
+    act(own, r);
+    let result = judge(rows, own, r, block);
+    if is_refusal(result) {
+        return refuse(result);
     }
-    let h = judge(n.table, d, t, r, block);
-    if is_refusal(h.result) {
-        return refuse(n, h.result);
-    }
-    send(out, z);
-    let table = sweep(h.table, s, t);
-    Answer {
-        node: Node { core, table },
-        result: h.result,
-        wrote,
-    }
+    let wrote = report_requests(own, is_tick(r), out);
+    sweep(rows, own);
+    Returned { result, wrote }
 }
 
 // Where the block of an attribute record begins: behind its head, span and address.
@@ -143,14 +103,22 @@ fn block_of(b: &[u8]) -> &[u8]
 }
 
 // A node takes a record from any bytes, with a buffer for the report: the refusals 1 to 8, or 0 and 20 to 24.
-pub fn take_record(n: Node, bytes: &[u8], out: &mut [u8]) -> Answer
-    requires { ⌜ Kept n ⌝ }
-    ensures { λ a. ⌜ Recorded n (now (bytes .entry)) (now (out .entry)) (now (out .exit)) a ⌝ }
+pub fn take_record(
+    own: &mut [u64; OWN_WORDS],
+    rows: &mut [u64; ROW_WORDS],
+    bytes: &[u8],
+    out: &mut [u8],
+) -> Returned
+    requires { ⌜ Kept (node (now own) (now rows)) ⌝ }
+    ensures { λ a.
+        ⌜ Recorded (node (now (own .entry)) (now (rows .entry))) (now (bytes .entry)) (now (out .entry)) (now (out .exit)) (answerIn (now (own .exit)) (now (rows .exit)) a) ⌝ }
 {
     if out.len() < wire::REPORT_LENGTH {
-        return refuse(n, results::NO_ROOM);
+        return refuse(results::NO_ROOM);
     }
-    let c = n.core;
-    let r = read_record(bytes, c.settings.address);
-    take_reading(n, r, block_of(bytes), out)
+    let r = read_record(bytes, address_in(own));
+    match r {
+        Reading::Refused(k) => refuse(k),
+        _ => take_reading(own, rows, r, block_of(bytes), out),
+    }
 }

@@ -8,7 +8,9 @@ use Rattle.settings.specs.Ticks.{ticksOf}
 use Rattle.settings.specs.Ranges.{inRange}
 use Rattle.settings.specs.Reading.{fieldsOf, fullIn, settingsIn}
 use Rattle.stations.specs.Table.{blank, tableOf}
+use Rattle.stations.specs.Rows.{image, flat, tableIn, placesIn}
 use Rattle.drill.specs.Text.{ascii, decimal, rows}
+use Rattle.controller.specs.Own.{ownOf}
 use Rattle.controller.specs.Drill.{settingsAt, settingsRecord, report, tick, records}
 use Rattle.drill.specs.Input.{output}
 use Rattle.drill.specs.Examples.{joined, ask}
@@ -38,27 +40,27 @@ pub worked : output (joined (settingsRecord ∷ records))
     ∷ "7 0 3 0 4 1 1"
     ∷ "8 0 3 0 4 1 0"
     ∷ [])
-unfolding output rows joined settingsIn headOf broken fullIn fieldsOf inRange addressAt tableOf ticksOf blank reportBytes
+unfolding output rows joined settingsIn headOf broken fullIn fieldsOf inRange addressAt tableOf image flat tableIn placesIn ownOf ticksOf blank reportBytes
 worked = refl
 
 -- Questions: of a station that was heard, of one that was not, with an odd first byte, with a body of 1; then a kind that is no event.
 pub asked : output (settingsRecord ++ report 7 ++ ask 2 2 ++ ask 2 3 ++ ask 1 2 ++ (3 ∷ 0 ∷ 40 ∷ 0 ∷ 9 ∷ []) ++ (2 ∷ 0 ∷ 16 ∷ 0 ∷ []))
     ≡ rows ("1 0 0 0 0 1 0" ∷ "2 way 0" ∷ "3 way 3" ∷ "4 4" ∷ "5 4" ∷ "6 3 0 0 0 1 0" ∷ [])
-unfolding output rows settingsIn headOf broken fullIn fieldsOf inRange addressAt tableOf ticksOf blank reportBytes
+unfolding output rows settingsIn headOf broken fullIn fieldsOf inRange addressAt tableOf image flat tableIn placesIn ownOf ticksOf blank reportBytes
 asked = refl
 
 -- A cut record, and a length of 1: the number and 2, and the end, whatever follows.
 pub cut-short : output (settingsRecord ++ tick ++ (4 ∷ 0 ∷ 2 ∷ 0 ∷ [])) ≡ rows ("1 0 0 0 0 0 0" ∷ "2 2" ∷ [])
-unfolding output rows settingsIn headOf broken fullIn fieldsOf inRange addressAt tableOf ticksOf blank reportBytes
+unfolding output rows settingsIn headOf broken fullIn fieldsOf inRange addressAt tableOf image flat tableIn placesIn ownOf ticksOf blank reportBytes
 cut-short = refl
 
 pub length-1 : output (settingsRecord ++ (1 ∷ 0 ∷ 1 ∷ 0 ∷ []) ++ tick) ≡ rows ("1 2" ∷ [])
-unfolding output rows settingsIn headOf broken fullIn fieldsOf inRange addressAt tableOf ticksOf blank reportBytes
+unfolding output rows settingsIn headOf broken fullIn fieldsOf inRange addressAt tableOf image flat tableIn placesIn ownOf ticksOf blank reportBytes
 length-1 = refl
 
 -- Settings alone, no input, settings that are cut, of another kind, with a level of 3.
 pub settings-alone : output settingsRecord ≡ []
-unfolding output rows settingsIn headOf broken fullIn fieldsOf inRange addressAt tableOf ticksOf blank reportBytes
+unfolding output rows settingsIn headOf broken fullIn fieldsOf inRange addressAt tableOf image flat tableIn placesIn ownOf ticksOf blank reportBytes
 settings-alone = refl
 
 pub no-input : output [] ≡ rows ("settings 2" ∷ [])
@@ -74,5 +76,5 @@ unfolding output rows settingsIn headOf broken
 settings-kind = refl
 
 pub settings-range : output (settingsAt 3 ++ tick) ≡ rows ("settings 4" ∷ [])
-unfolding output rows settingsIn headOf broken fullIn fieldsOf inRange addressAt tableOf ticksOf blank reportBytes
+unfolding output rows settingsIn headOf broken fullIn fieldsOf inRange addressAt tableOf image flat tableIn placesIn ownOf ticksOf blank reportBytes
 settings-range = refl

@@ -9,9 +9,7 @@ use lib.Dec.{eqb}
 use Rattle.wire.specs.Fields.{addressAt, oddFirst}
 use Rattle.wire.specs.Head.{kindOf, bodyOf}
 use Rattle.controller.specs.State.{State}
-use Rattle.controller.specs.declared.node.Node.{Node}
-use Rattle.controller.specs.declared.record.Answer.{Answer}
-use Rattle.controller.specs.Node.{stateOf, answerOf, westRequest, eastRequest, steered}
+use Rattle.controller.specs.Node.{Node, Answer, stateOf, answerOf, westRequest, eastRequest, steered}
 use Rattle.controller.specs.Record.{outcome}
 use Rattle.ways.specs.Choice.{number}
 use Rattle.drill.specs.Text.{LF, space, digit, ascii, digitsOf, decimal, line, Plain, OneLine}

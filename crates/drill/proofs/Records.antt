@@ -5,8 +5,7 @@ use mathlib.Core.Bool.{cond}
 use mathlib.Core.List.{List, [], _∷_, _++_, append-assoc}
 use native.Mathlib.Omega.{arith}
 use lib.ListN.{length}
-use Rattle.controller.specs.declared.record.Answer.{Answer}
-use Rattle.controller.specs.Node.{stateOf, westRequest, eastRequest}
+use Rattle.controller.specs.Node.{Answer, stateOf, westRequest, eastRequest}
 use Rattle.drill.specs.Text.{decimal, line}
 use Rattle.drill.specs.Lines.{recordLine}
 use Rattle.drill.specs.Promise.{Number, Pair, Lined}

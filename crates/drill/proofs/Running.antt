@@ -6,11 +6,10 @@ use mathlib.Core.List.{List, [], _∷_, _++_, append-assoc}
 use native.Mathlib.Omega.{arith}
 use native.Mathlib.Numerals.{add-one}
 use lib.ListN.{length}
-use Rattle.controller.specs.declared.node.Node.{Node}
+use Rattle.controller.specs.Node.{Node}
 use Rattle.controller.specs.Kept.{Kept}
 use Rattle.drill.specs.Turns.{Read, turned, told, passed, linesOf, inOrder}
-use Rattle.drill.specs.Promise.{Taken, WentOn, Ran}
-use Rattle.drill.specs.declared.turn.Turn.{Turn}
+use Rattle.drill.specs.Promise.{Turning, Taken, WentOn, Ran}
 
 -- The greatest number of 64 bits.
 abbrev most : ℕ
@@ -36,7 +35,7 @@ next-is : (start n : Node) (k : ℕ) (w : Read) (l : List Read) → k ≡ length
 unfolding passed
 next-is start n k w l e q = rw (add-one k, e, q)
 
-pub one-more : {start n : Node} {k : ℕ} {more : Bool} {t : Turn} → Passing start n k more → k < most → more ≡ true → Taken (k + 1) n t
+pub one-more : {start n : Node} {k : ℕ} {more : Bool} {t : Turning} → Passing start n k more → k < most → more ≡ true → Taken (k + 1) n t
     → Passing start (t .node) (k + 1) (t .more)
 one-more {start} {n} {k} p low h t =
     let e = next-is start n k (t .read) (p .reads) (p .counted) (p .node-is) in
@@ -51,11 +50,11 @@ one-more {start} {n} {k} p low h t =
     }
 
 -- The numbers are at an end, or the drill is.
-pub out-of-numbers : {start n : Node} {k : ℕ} {more : Bool} → Passing start n k more → most ≤ k → Ran start (record { number = k; more = more })
-out-of-numbers p h = record { reads = p .reads; counted = p .counted; is = p .more-is; on = p .on; over = λ e. omega (arith, p .small) }
+pub out-of-numbers : {start n : Node} {k : ℕ} {more : Bool} → Passing start n k more → most ≤ k → Ran start n (record { number = k; more = more })
+out-of-numbers p h = record { reads = p .reads; left = p .node-is; counted = p .counted; is = p .more-is; on = p .on; over = λ e. omega (arith, p .small) }
 
-pub at-the-end : {start n : Node} {k : ℕ} {more : Bool} → Passing start n k more → more ≡ false → Ran start (record { number = k; more = more })
-at-the-end p h = record { reads = p .reads; counted = p .counted; is = p .more-is; on = p .on; over = λ e. absurd (true≢false (sym e ∙ h)) }
+pub at-the-end : {start n : Node} {k : ℕ} {more : Bool} → Passing start n k more → more ≡ false → Ran start n (record { number = k; more = more })
+at-the-end p h = record { reads = p .reads; left = p .node-is; counted = p .counted; is = p .more-is; on = p .on; over = λ e. absurd (true≢false (sym e ∙ h)) }
 
 -- The lines of the steps of a run are the text of its reads.
 pub text-of-run : (n : Node) (l m : List Read) → WentOn n l

@@ -7,8 +7,7 @@ use lib.Dec.{eqb}
 use Rattle.wire.specs.Fields.{addressAt, oddFirst}
 use Rattle.ways.specs.Choice.{number}
 use Rattle.controller.specs.State.{State}
-use Rattle.controller.specs.declared.record.Answer.{Answer}
-use Rattle.controller.specs.Node.{stateOf, westRequest, eastRequest, steered}
+use Rattle.controller.specs.Node.{Answer, stateOf, westRequest, eastRequest, steered}
 use Rattle.drill.specs.Text.{ascii, decimal, line}
 
 -- "Any other record gives a line: number from 1, result, west request, east request, own sequence, stations, 1 if a report was written else 0."

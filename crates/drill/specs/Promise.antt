@@ -1,13 +1,15 @@
 -- The promises of the drill's functions. No rule stands here.
 use Prim.Native.Nat.{ℕ, _+_, _≤_}
 use mathlib.Core.Path.{_≡_}
-use mathlib.Core.Bool.{Bool, true}
+use mathlib.Core.Bool.{Bool, true, cond}
 use mathlib.Core.List.{List, [], _∷_, _++_}
+use lib.Dec.{eqb}
 use lib.ListN.{length, take}
 use lib.Seq.{sets}
-use Rattle.controller.specs.declared.node.Node.{Node}
+use Rattle.controller.specs.Node.{Node, node}
 use Rattle.controller.specs.Kept.{Kept}
 use Rattle.drill.specs.Text.{space, decimal}
+use Rattle.drill.specs.Lines.{settingsLine}
 use Rattle.drill.specs.Turns.{Read, nothing, cut, whole, Step, turned, passed}
 use Rattle.drill.specs.Input.{firstOf}
 use Rattle.drill.specs.declared.input.Input.{Input}
@@ -50,22 +52,36 @@ First Nothing buf = Unit {0}
 First Cut buf = Unit {0}
 First (Whole end) buf = firstOf buf ≡ whole (take end buf)
 
-abbrev pub turn : Node → ℕ → Bool → Turn
+-- The node that a step leaves in the words, the length of its line, and whether the drill goes on.
+pub record Turning : Type 0 where
+  pub node : Node
+  pub length : ℕ
+  pub more : Bool
+
+abbrev pub turn : Node → ℕ → Bool → Turning
 turn n size m = record { node = n; length = size; more = m }
 
+abbrev pub turnIn : List ℕ → List ℕ → Turn → Turning
+turnIn own rows r = turn (node own rows) (r .length) (r .more)
+
 -- What a step gives beside its line.
-abbrev pub turnOf : Step → Turn
+abbrev pub turnOf : Step → Turning
 turnOf s = turn (s .node) (length (s .line)) (s .more)
 
--- A step: node, length of the line and whether the drill goes on in one equation, and the whole content of the lent line, which was `old` and is `new`.
-pub record Turned (s : Step) (old new : List ℕ) (r : Turn) : Type 0 where
+-- A start told by its result: taken, there is no line and the drill goes on.
+pub record StartTold (result : ℕ) (old new : List ℕ) (r : Turn) : Type 0 where
+  pub line : Lined (cond (eqb result 0) [] (settingsLine result)) old new (r .length)
+  pub more : r .more ≡ eqb result 0
+
+-- A step: both arrays, length of the line and whether the drill goes on in one equation, and the whole content of the lent line, which was `old` and is `new`.
+pub record Turned (s : Step) (old new : List ℕ) (r : Turning) : Type 0 where
   pub is : r ≡ turnOf s
   pub room : length (s .line) ≤ 147
   pub content : new ≡ sets old 0 (s .line)
   pub kept : Kept (r .node)
 
 -- A turn of the program from a node at a number: the step of something that was read.
-pub record Taken (k : ℕ) (n : Node) (r : Turn) : Type 0 where
+pub record Taken (k : ℕ) (n : Node) (r : Turning) : Type 0 where
   pub read : Read
   pub is : r ≡ turnOf (turned k n read)
   pub kept : Kept (r .node)
@@ -75,9 +91,10 @@ abbrev pub WentOn : Node → List Read → Type 0
 WentOn n [] = Unit {0}
 WentOn n (w ∷ l) = (passed n l .more ≡ true) × WentOn n l
 
--- A run from a node: one step after the other on what was read, until one ends it or the numbers of 64 bits do.
-pub record Ran (n : Node) (r : Ended) : Type 0 where
+-- A run from a node n, which has become m: one step after the other on what was read, until one ends it or the numbers of 64 bits do.
+pub record Ran (n m : Node) (r : Ended) : Type 0 where
   pub reads : List Read
+  pub left : m ≡ passed n reads .node
   pub counted : r .number ≡ length reads
   pub is : r .more ≡ passed n reads .more
   pub on : WentOn n reads

@@ -6,9 +6,7 @@ use lib.ListN.{length}
 use lib.Dec.{eqb}
 use Rattle.wire.specs.Head.{kindOf, bodyOf}
 use Rattle.controller.specs.Record.{outcome}
-use Rattle.controller.specs.declared.node.Node.{Node}
-use Rattle.controller.specs.declared.node.Started.{Started}
-use Rattle.controller.specs.Node.{stateOf, startedWith, answerOf}
+use Rattle.controller.specs.Node.{Node, Started, stateOf, startedWith, answerOf}
 use Rattle.drill.specs.Lines.{recordLine, refusedLine, questionLine, settingsLine}
 
 -- What was read: nothing, as the input had ended; a cut record or one with a length outside 2 to 1,033; a whole record.

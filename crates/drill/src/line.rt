@@ -1,13 +1,14 @@
 // The lines of a drill, each made in a buffer of 147 bytes: room for seven fields of at most 20 digits, each with a byte behind it.
-use controller::Answer;
-use controller::Node;
+use controller::OWN_WORDS;
+use controller::ROW_WORDS;
+use controller::Returned;
 ghost use mathlib.Core.Path.{_≡_};
 ghost use mathlib.Core.Bool.{cond};
 ghost use mathlib.Core.List.{[], _∷_};
 ghost use Prim.Native.Nat.{_+_, _<_, _≤_};
 ghost use lib.ListN.{length};
 ghost use Rattle.controller.specs.Kept.{Kept};
-ghost use Rattle.controller.specs.Node.{stateOf};
+ghost use Rattle.controller.specs.Node.{node, stateOf, answerIn};
 ghost use Rattle.drill.specs.Lines.{recordLine, refusedLine, wayLine, questionLine, settingsLine};
 ghost use Rattle.drill.specs.Promise.{Put, Number, Pair, Lined};
 
@@ -69,9 +70,16 @@ fn put_way(line: &mut [u8; 147], number: u64, reply: u8) -> usize
 }
 
 // A question: the way to an address; a wrong body length or an odd first byte is 4.
-pub(crate) fn put_question(line: &mut [u8; 147], number: u64, n: Node, body: &[u8]) -> usize
-    requires { ⌜ Kept n ⌝ }
-    ensures { λ r. ⌜ Lined (questionLine number (stateOf n) (now (body .entry))) (now (line .entry)) (now (line .exit)) r ⌝ }
+pub(crate) fn put_question(
+    line: &mut [u8; 147],
+    number: u64,
+    own: &[u64; OWN_WORDS],
+    rows: &[u64; ROW_WORDS],
+    body: &[u8],
+) -> usize
+    requires { ⌜ Kept (node (now own) (now rows)) ⌝ }
+    ensures { λ r.
+        ⌜ Lined (questionLine number (stateOf (node (now (own .entry)) (now (rows .entry)))) (now (body .entry))) (now (line .entry)) (now (line .exit)) r ⌝ }
 {
     if body.len() != 6 {
         return put_refused(line, number, 4);
@@ -80,7 +88,11 @@ pub(crate) fn put_question(line: &mut [u8; 147], number: u64, n: Node, body: &[u
     if wire::odd_first(address) {
         return put_refused(line, number, 4);
     }
-    put_way(line, number, ways::number(controller::steer(n, address)))
+    put_way(
+        line,
+        number,
+        ways::number(controller::steer(own, rows, address)),
+    )
 }
 
 // 1 if a report was written else 0.
@@ -103,17 +115,22 @@ fn put_requests(line: &mut [u8; 147], at: usize, west: u8, east: u8) -> usize
 }
 
 // A record: number, result, west request, east request, own sequence, stations, 1 if a report was written else 0.
-pub(crate) fn put_record(line: &mut [u8; 147], number: u64, a: Answer) -> usize
-    requires { ⌜ Kept (a .node) ⌝ }
-    ensures { λ r. ⌜ Lined (recordLine number a) (now (line .entry)) (now (line .exit)) r ⌝ }
+pub(crate) fn put_record(
+    line: &mut [u8; 147],
+    number: u64,
+    own: &[u64; OWN_WORDS],
+    rows: &[u64; ROW_WORDS],
+    a: Returned,
+) -> usize
+    requires { ⌜ Kept (node (now own) (now rows)) ⌝ }
+    ensures { λ r. ⌜ Lined (recordLine number (answerIn (now (own .entry)) (now (rows .entry)) a)) (now (line .entry)) (now (line .exit)) r ⌝ }
 {
-    let n = a.node;
-    let west = controller::west_request(n);
-    let east = controller::east_request(n);
+    let west = controller::west_request(own, rows);
+    let east = controller::east_request(own, rows);
     let at = put_number(line, 0, number, b' ');
     let at = put_number(line, at, a.result as u64, b' ');
     let at = put_requests(line, at, west, east);
-    let at = put_number(line, at, controller::own_sequence(n) as u64, b' ');
-    let at = put_number(line, at, controller::station_count(n) as u64, b' ');
+    let at = put_number(line, at, controller::own_sequence(own, rows) as u64, b' ');
+    let at = put_number(line, at, controller::station_count(own, rows) as u64, b' ');
     put_number(line, at, written(a.wrote), b'\n')
 }

@@ -8,10 +8,11 @@ use Rattle.settings.specs.Ticks.{ticksOf}
 use Rattle.settings.specs.Ranges.{inRange}
 use Rattle.settings.specs.Reading.{fieldsOf, fullIn, shortIn, settingsIn}
 use Rattle.stations.specs.Table.{blank, tableOf}
+use Rattle.stations.specs.Rows.{image, tableIn}
+use Rattle.controller.specs.Own.{ownOf}
 use Rattle.controller.specs.State.{State}
 use Rattle.controller.specs.Record.{outcome}
-use Rattle.controller.specs.declared.node.Node.{Node}
-use Rattle.controller.specs.Node.{stateOf, answerOf, startedWith}
+use Rattle.controller.specs.Node.{Node, stateOf, answerOf, startedWith}
 use Rattle.promises.specs.Examples.{address, tick, link, report, attributes, settings}
 use Rattle.promises.specs.Refusals.{Test, tests, startTests}
 
@@ -42,7 +43,7 @@ unfolding startedWith settingsIn headOf broken fullIn fieldsOf inRange addressAt
 fresh = startedWith (settings 2 0) .node
 
 unfoldable pub next : Node → List ℕ → Node
-unfolding outcome tableOf blank ticksOf
+unfolding outcome tableOf image tableIn ownOf blank ticksOf
 next n b = answerOf n (outcome (stateOf n) b 7) .node
 
 unfoldable pub joined : Node

@@ -2,9 +2,8 @@
 use Prim.Native.Nat.{ℕ}
 use mathlib.Core.Path.{_≡_}
 use mathlib.Core.List.{List, reverse, map}
-use Rattle.controller.specs.declared.node.Started.{Started}
+use Rattle.controller.specs.Node.{Started, startedWith}
 use Rattle.controller.specs.Promise.{Begun}
-use Rattle.controller.specs.Node.{startedWith}
 use Rattle.promises.specs.History.{Call, Made, callsOf, Met}
 
 -- The calls of the records, the latest first.

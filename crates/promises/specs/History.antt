@@ -9,10 +9,7 @@ use Rattle.settings.specs.Reading.{settingsIn}
 use Rattle.ways.specs.Choice.{number}
 use Rattle.controller.specs.State.{State, started}
 use Rattle.controller.specs.Record.{Outcome, outcome}
-use Rattle.controller.specs.declared.node.Node.{Node}
-use Rattle.controller.specs.declared.node.Started.{Started}
-use Rattle.controller.specs.declared.record.Answer.{Answer}
-use Rattle.controller.specs.Node.{choiceOf, stateOf, nodeOf, wrote, westRequest, eastRequest, steered, asked}
+use Rattle.controller.specs.Node.{Node, Started, Answer, choiceOf, stateOf, nodeOf, wrote, westRequest, eastRequest, steered, asked}
 use Rattle.controller.specs.Kept.{Kept}
 use Rattle.controller.specs.Promise.{Recorded}
 

@@ -3,8 +3,7 @@ use Prim.Native.Nat.{ℕ}
 use mathlib.Core.List.{List, [], _∷_}
 use lib.ListN.{replicate}
 use Rattle.controller.specs.State.{State}
-use Rattle.controller.specs.declared.node.Started.{Started}
-use Rattle.controller.specs.Node.{startedWith}
+use Rattle.controller.specs.Node.{Started, startedWith}
 use Rattle.promises.specs.History.{Call, startOf}
 use Rattle.promises.specs.Possible.{Handed}
 use Rattle.promises.specs.Examples.{settings, link, report, attributes}

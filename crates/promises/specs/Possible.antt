@@ -6,9 +6,8 @@ use lib.ListN.{length}
 use lib.Dec.{ltb}
 use Rattle.wire.specs.Report.{over}
 use Rattle.wire.specs.Fields.{Bytes}
-use Rattle.controller.specs.declared.node.Started.{Started}
+use Rattle.controller.specs.Node.{Started, stateOf, answerOf}
 use Rattle.controller.specs.Record.{outcome}
-use Rattle.controller.specs.Node.{stateOf, answerOf}
 use Rattle.promises.specs.History.{Call, Made, nodeAfter}
 
 -- A record and a buffer, as they are handed to a call.

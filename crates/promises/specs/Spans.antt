@@ -1,7 +1,7 @@
 -- What happens to a span over a history. Span n is west for 0 and east for 1; own is the node's address, on which the reading of a record depends.
 use Prim.Native.Nat.{ℕ, suc}
 use mathlib.Core.Path.{_≡_}
-use mathlib.Core.Bool.{Bool, false, cond, _||_}
+use mathlib.Core.Bool.{Bool, true, false, cond, _||_}
 use mathlib.Core.List.{List, [], _∷_, _++_}
 use lib.Dec.{eqb, ltb}
 use Rattle.settings.specs.declared.choice.Ticks.{Ticks}
@@ -16,8 +16,7 @@ use Rattle.controller.specs.declared.reading.Reading.the-variants.{Refused, Tic
 use Rattle.controller.specs.Reading.{reading}
 use Rattle.controller.specs.State.{Spans, State, spanOf, withSpan}
 use Rattle.controller.specs.Closing.{isTick, swept}
-use Rattle.controller.specs.declared.node.Started.{Started}
-use Rattle.controller.specs.Node.{stateOf}
+use Rattle.controller.specs.Node.{Started, stateOf}
 use Rattle.promises.specs.History.{Call, after, Made, nodeAfter}
 
 -- The own address, and the settings in ticks: of a state, and as the bytes of a settings record bring them.
@@ -40,6 +39,16 @@ seen st h = stateOf (nodeAfter st h)
 -- What the record of a call says, or its refusal.
 abbrev pub readAs : ℕ → Call → Reading
 readAs own c = reading own (c .bytes) (c .room)
+
+-- Link, keepalive and operator records leave the stations alone.
+abbrev pub leavesTable : Reading → Bool
+leavesTable (Refused k) = false
+leavesTable Tick = false
+leavesTable (Link n status) = true
+leavesTable (Keepalive n) = true
+leavesTable (Operator n request) = true
+leavesTable (Heard n p) = false
+leavesTable (Block n a) = false
 
 -- A link record of span n.
 abbrev pub isLink : ℕ → Reading → Bool

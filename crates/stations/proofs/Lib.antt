@@ -14,7 +14,13 @@ pub mod Ranks
 pub mod Passes
 pub mod Shifts
 pub mod Others
-pub mod Losing
 pub mod Places
 pub mod Numbers
-pub mod Hearings
+pub mod Words
+pub mod Reading
+pub mod Passing
+pub mod Raising
+pub mod Shifting
+pub mod Storing
+pub mod Telling
+pub mod Alone

@@ -42,7 +42,7 @@ module _ (k : Station → Bool) (m : Station → Station) (l p g : List Station)
   split : g ≡ sifted k m (take i l) ++ replicate (i - j) blank ++ getD l i d ∷ drop (i + 1) p
   split = at .is ∙ rw (drop-cons p i d under, same, add-one)
 
-  read : getD g i d ≡ getD l i d
+  pub read : getD g i d ≡ getD l i d
   read =
       ap (λ (q : List Station). getD q i d) split
       ∙ getD-at (sifted k m (take i l) ++ replicate (i - j) blank) (getD l i d) (drop (i + 1) p) d i head-long

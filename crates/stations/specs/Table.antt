@@ -7,11 +7,13 @@ use lib.ListN.{length, take, replicate}
 use lib.Dec.{eqb}
 use Rattle.stations.specs.Station.{Station}
 use Rattle.stations.specs.Stations.{capacity}
-use Rattle.stations.specs.Hearing.{Placed}
-pub use Rattle.stations.specs.declared.table.Table.{Table}
 pub use Rattle.stations.specs.declared.find.Found.{Found}
 pub use Rattle.stations.specs.declared.find.Found.the-variants.{At, Nothing}
-pub use Rattle.stations.specs.declared.hear.Hearing.{Hearing}
+
+-- A table as the rules of its words see it: no code holds one.
+pub record Table : Type 0 where
+  pub places : List Station
+  pub count : ℕ
 
 -- What stands in a place that is not in use.
 unfoldable pub blank : Station
@@ -73,6 +75,3 @@ foundNumber (At i) = 0
 abbrev pub foundValues : Found → List ℕ
 foundValues Nothing = []
 foundValues (At i) = i ∷ []
-
-abbrev pub hearingOf : Placed → Hearing
-hearingOf p = record { table = tableOf (p .stations); result = p .result }

@@ -1,107 +1,90 @@
-// Step (e) of a report heard.
+// Step (e) of a report heard. No two stations share a hop, so that one station at most is another at the report's hop.
+use crate::insert::remove_at;
+use crate::purge::remains_in;
+use crate::rows::PLACES;
+use crate::rows::ROW_WORDS;
+use crate::rows::address_in;
+use crate::rows::count;
+use crate::rows::hop_in;
+use crate::rows::put_hops;
 use crate::station::Report;
 use crate::station::side;
-use crate::station::somewhere;
-use crate::table::Table;
-use crate::table::blank_station;
 ghost use mathlib.Core.Path.{_≡_};
-ghost use mathlib.Core.Bool.{true, cond, not, _&&_};
-ghost use lib.Dec.{eqb};
-ghost use Rattle.stations.specs.Stations.{displaced};
-ghost use Rattle.stations.specs.Steps.{anyOther};
-ghost use Rattle.stations.specs.Table.{TableKept, live, tableOf};
+ghost use Prim.Native.Nat.{_<_};
+ghost use lib.Dec.{ltb};
+ghost use lib.ListN.{length};
+ghost use Rattle.stations.specs.Stations.{capacity, otherAt, displaced};
+ghost use Rattle.stations.specs.Steps.{Sole};
+ghost use Rattle.stations.specs.Rows.{RowsHeld, RowsKept, stationIn, withHopIn, stationsIn, rowsOf};
 
-// A station at the report's hop, and not the one that it comes from.
-fn is_other(hop: u8, at: u8, address: u64, reporter: u64) -> bool
-    ensures { λ r. ⌜ r ≡ eqb hop at && not (eqb address reporter) ⌝ }
+// The place of a station at the report's hop, or the number of stations. Hop 0 is nobody's.
+pub(crate) fn holder(rows: &[u64; ROW_WORDS], p: Report) -> usize
+    requires { ⌜ RowsKept (now rows) ⌝ }
+    ensures { λ r. ⌜ Sole p r (stationsIn (now (rows .entry))) ⌝ }
 {
-    if hop == at {
-        return address != reporter;
+    let n = count(rows);
+    if p.hop == 0 {
+        return n;
+    }
+    let mut i: usize = 0;
+    while i < n {
+        if hop_in(rows, i, p.ringlet) == p.hop {
+            return i;
+        }
+        i += 1;
+    }
+    n
+}
+
+// The station at a place is at the report's hop, and not the one that the report comes from.
+fn is_other(rows: &[u64; ROW_WORDS], at: usize, p: Report) -> bool
+    requires { ⌜ at < capacity ⌝ }
+    ensures { λ r. ⌜ r ≡ otherAt p (stationIn (now (rows .entry)) at) ⌝ }
+{
+    if hop_in(rows, at, p.ringlet) == p.hop {
+        return address_in(rows, at) != p.address;
     }
     false
 }
 
-fn choose(lost: bool, cleared: u8, hop: u8) -> u8
-    ensures { λ r. ⌜ r ≡ cond lost cleared hop ⌝ }
+// The station at a place loses its hop on a ringlet.
+fn clear_hop(rows: &mut [u64; ROW_WORDS], at: usize, ringlet: u8)
+    requires { ⌜ at < capacity ⌝ }
+    ensures { λ r. ⌜ now (rows .exit) ≡ withHopIn ringlet at (now (rows .entry)) ⌝ }
 {
-    if lost {
-        return cleared;
-    }
-    hop
+    let hop0 = side(ringlet, 0, hop_in(rows, at, 0));
+    let hop1 = side(ringlet, hop_in(rows, at, 1), 0);
+    put_hops(rows, at, hop0, hop1);
 }
 
-// A station stays unless it loses its last hop.
-fn stays(lost: bool, hop0: u8, hop1: u8) -> bool
-    ensures { λ r. ⌜ r ≡ cond lost (not (eqb hop0 0 && eqb hop1 0)) true ⌝ }
+// A place is free after step (e), where only the station at a place may be another at the report's hop.
+pub(crate) fn has_room(rows: &[u64; ROW_WORDS], o: usize, p: Report) -> bool
+    requires { ⌜ RowsHeld (now rows) × Sole p o (stationsIn (now rows)) ⌝ }
+    ensures { λ r. ⌜ r ≡ ltb (length (displaced p (stationsIn (now (rows .entry))))) capacity ⌝ }
 {
-    if lost {
-        return somewhere(hop0, hop1);
+    if count(rows) < PLACES {
+        return true;
     }
-    true
-}
-
-// Some other station stands at the report's hop.
-fn is_held(t: Table, p: Report) -> bool
-    requires { ⌜ TableKept t ⌝ }
-    ensures { λ r. ⌜ r ≡ anyOther p (live t) ⌝ }
-{
-    let n = t.count;
-    let mut i: usize = 0;
-    while i < n {
-        let hop = side(p.ringlet, t.places[i].hop0, t.places[i].hop1);
-        if is_other(hop, p.hop, t.places[i].address, p.address) {
-            return true;
+    if o < PLACES {
+        if is_other(rows, o, p) {
+            return !remains_in(rows, o, p.ringlet);
         }
-        i += 1;
     }
     false
 }
 
-// Station by station; those that stay close up.
-fn clear_hop(mut t: Table, p: Report) -> Table
-    requires { ⌜ TableKept t ⌝ }
-    ensures { λ r. ⌜ r ≡ tableOf (displaced p (live t)) ⌝ }
+// Any other station at the report's hop of its ringlet loses that hop, and leaves if it has none left: only the one at a place may be such.
+pub(crate) fn displace_others(rows: &mut [u64; ROW_WORDS], o: usize, p: Report)
+    requires { ⌜ RowsHeld (now rows) × Sole p o (stationsIn (now rows)) ⌝ }
+    ensures { λ r. ⌜ now (rows .exit) ≡ rowsOf (displaced p (stationsIn (now (rows .entry)))) ⌝ }
 {
-    let b = blank_station();
-    let n = t.count;
-    let mut j: usize = 0;
-    let mut i: usize = 0;
-    while i < n {
-        let k = i;
-        i += 1;
-        let old0 = t.places[k].hop0;
-        let old1 = t.places[k].hop1;
-        let lost = is_other(
-            side(p.ringlet, old0, old1),
-            p.hop,
-            t.places[k].address,
-            p.address,
-        );
-        let hop0 = side(p.ringlet, 0, old0);
-        let hop1 = side(p.ringlet, old1, 0);
-        if stays(lost, hop0, hop1) {
-            let to = j;
-            j += 1;
-            let mut s = t.places[k];
-            s.hop0 = choose(lost, hop0, old0);
-            s.hop1 = choose(lost, hop1, old1);
-            t.places[k] = b;
-            t.places[to] = s;
-        } else {
-            t.places[k] = b;
+    if o < count(rows) {
+        if is_other(rows, o, p) {
+            if remains_in(rows, o, p.ringlet) {
+                clear_hop(rows, o, p.ringlet);
+            } else {
+                remove_at(rows, o);
+            }
         }
     }
-    t.count = j;
-    t
-}
-
-// Any other station at the report's hop of its ringlet loses that hop, and leaves if it has none left.
-pub(crate) fn displace_others(t: Table, p: Report) -> Table
-    requires { ⌜ TableKept t ⌝ }
-    ensures { λ r. ⌜ r ≡ tableOf (displaced p (live t)) ⌝ }
-{
-    if is_held(t, p) {
-        return clear_hop(t, p);
-    }
-    t
 }

@@ -1,34 +1,23 @@
 // The attributes of a station.
-use crate::find::Found;
-use crate::find::find_station;
+use crate::rows::ROW_WORDS;
+use crate::rows::count;
+use crate::rows::put_station;
+use crate::rows::station_in;
 use crate::station::dress;
-use crate::table::Table;
 use blocks::Attributes;
 ghost use mathlib.Core.Path.{_≡_};
-ghost use Prim.Native.Nat.{_<_};
 ghost use lib.ListN.{set, getD};
 ghost use Rattle.stations.specs.Station.{withAttributes};
-ghost use Rattle.stations.specs.Stations.{given};
-ghost use Rattle.stations.specs.Table.{TableKept, blank, live, tableOf};
+ghost use Rattle.stations.specs.Table.{blank};
+ghost use Rattle.stations.specs.Rows.{RowsKept, stationsIn, rowsOf};
 
-// The station at a place with other attributes.
-fn dress_at(mut t: Table, at: usize, x: Attributes) -> Table
-    requires { ⌜ TableKept t × (at < t .count) ⌝ }
-    ensures { λ r. ⌜ r ≡ tableOf (set (live t) at (withAttributes x (getD (live t) at blank))) ⌝ }
+// The attributes of the station at a place replaced; a place that is not in use stays as it is.
+pub fn give_attributes(rows: &mut [u64; ROW_WORDS], at: usize, x: Attributes)
+    requires { ⌜ RowsKept (now rows) ⌝ }
+    ensures { λ r. ⌜ now (rows .exit) ≡ rowsOf (set (stationsIn (now (rows .entry))) at (withAttributes x (getD (stationsIn (now (rows .entry))) at blank))) ⌝ }
 {
-    let s = t.places[at];
-    t.places[at] = dress(s, x);
-    t
-}
-
-// A station's attributes replaced; a table without the station stays as it is.
-pub fn give_attributes(t: Table, address: u64, x: Attributes) -> Table
-    requires { ⌜ TableKept t ⌝ }
-    ensures { λ r. ⌜ r ≡ tableOf (given address x (live t)) ⌝ }
-{
-    let f = find_station(t, address);
-    match f {
-        Found::Nothing => t,
-        Found::At(at) => dress_at(t, at, x),
+    if at < count(rows) {
+        let s = station_in(rows, at);
+        put_station(rows, at, dress(s, x));
     }
 }

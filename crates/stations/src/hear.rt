@@ -1,84 +1,87 @@
-// A report heard, steps (d) to (f) and what follows them.
+// A report heard, steps (d) to (f) and what follows them. What is refused is decided before anything is changed.
 use crate::displace::displace_others;
-use crate::find::Found;
-use crate::find::find_station;
+use crate::displace::has_room;
+use crate::displace::holder;
+use crate::find::rank;
+use crate::insert::insert_at;
 use crate::insert::insert_station;
+use crate::rows::ROW_WORDS;
+use crate::rows::address_in;
+use crate::rows::count;
+use crate::rows::put_station;
+use crate::rows::sequence_in;
+use crate::rows::station_in;
 use crate::station::Report;
 use crate::station::distance;
 use crate::station::hear_again;
 use crate::station::join;
-use crate::table::PLACES;
-use crate::table::Table;
 use wire::results;
 ghost use mathlib.Core.Path.{_≡_};
 ghost use Prim.Native.Nat.{_<_};
-ghost use lib.ListN.{set, getD};
+ghost use lib.ListN.{set, getD, length};
 ghost use Rattle.stations.specs.Hearing.{distance, heardAgain, placed, placedNew, placedKnown};
-ghost use Rattle.stations.specs.Table.{TableKept, blank, live, tableOf, found, At, hearingOf};
+ghost use Rattle.stations.specs.Steps.{rankOf};
+ghost use Rattle.stations.specs.Table.{blank, found, At};
+ghost use Rattle.stations.specs.Rows.{RowsHeld, RowsKept, stationsIn, rowsOf, left, leftBy};
 
 // Distances above it are those of old reports.
 const LAST_NEWER: u8 = 128;
 
-#[repr(C)]
-pub struct Hearing {
-    pub table: Table,
-    pub result: u8,
-}
-
-// A new station needs a free place after the displaced one has left.
-fn hear_new(t: Table, p: Report) -> Hearing
-    requires { ⌜ TableKept t ⌝ }
-    ensures { λ r. ⌜ r ≡ hearingOf (placedNew p (live t)) ⌝ }
+// A new station needs a free place after the displaced one has left. `at` is where its address goes.
+fn hear_new(rows: &mut [u64; ROW_WORDS], at: usize, p: Report) -> u8
+    requires { ⌜ RowsKept (now rows) × (at ≡ rankOf (p .address) (stationsIn (now rows))) ⌝ }
+    ensures { λ r. ⌜ left (now (rows .exit)) r ≡ leftBy (placedNew p (stationsIn (now (rows .entry)))) ⌝ }
 {
-    let u = displace_others(t, p);
-    if u.count < PLACES {
-        return Hearing {
-            table: insert_station(u, join(p)),
-            result: results::TAKEN,
-        };
+    let o = holder(rows, p);
+    if has_room(rows, o, p) {
+        let n = count(rows);
+        displace_others(rows, o, p);
+        if count(rows) == n {
+            insert_at(rows, at, join(p));
+            return results::TAKEN;
+        }
+        insert_station(rows, join(p));
+        return results::TAKEN;
     }
-    Hearing {
-        table: t,
-        result: results::NO_PLACE,
-    }
+    results::NO_PLACE
 }
 
 // The station at a place is heard again, its report at a distance from the one before.
-fn renew_at(mut t: Table, at: usize, p: Report, distance: u8) -> Table
-    requires { ⌜ TableKept t × (at < t .count) ⌝ }
-    ensures { λ r. ⌜ r ≡ tableOf (set (live t) at (heardAgain distance p (getD (live t) at blank))) ⌝ }
+fn renew_at(rows: &mut [u64; ROW_WORDS], at: usize, p: Report, distance: u8)
+    requires { ⌜ RowsHeld (now rows) × (at < length (stationsIn (now rows))) ⌝ }
+    ensures { λ r. ⌜ now (rows .exit) ≡ rowsOf (set (stationsIn (now (rows .entry))) at (heardAgain distance p (getD (stationsIn (now (rows .entry))) at blank))) ⌝ }
 {
-    let s = t.places[at];
-    t.places[at] = hear_again(s, p, distance);
-    t
+    let s = station_in(rows, at);
+    put_station(rows, at, hear_again(s, p, distance));
 }
 
 // A known station: an old report changes nothing; else the others at its hop give way.
-fn hear_known(t: Table, at: usize, p: Report) -> Hearing
-    requires { ⌜ TableKept t × (found (p .address) (live t) ≡ At at) ⌝ }
-    ensures { λ r. ⌜ r ≡ hearingOf (placedKnown (distance (p .sequence) (getD (live t) at blank .sequence)) p (live t)) ⌝ }
+fn hear_known(rows: &mut [u64; ROW_WORDS], at: usize, p: Report) -> u8
+    requires { ⌜ RowsKept (now rows) × (found (p .address) (stationsIn (now rows)) ≡ At at) ⌝ }
+    ensures { λ r.
+        ⌜ left (now (rows .exit)) r ≡ leftBy (placedKnown (distance (p .sequence) (getD (stationsIn (now (rows .entry))) at blank .sequence)) p (stationsIn (now (rows .entry)))) ⌝ }
 {
-    let d = distance(p.sequence, t.places[at].sequence);
+    let d = distance(p.sequence, sequence_in(rows, at));
     if LAST_NEWER < d {
-        return Hearing {
-            table: t,
-            result: results::OLD_REPORT,
-        };
+        return results::OLD_REPORT;
     }
-    let u = renew_at(t, at, p, d);
-    Hearing {
-        table: displace_others(u, p),
-        result: results::TAKEN,
-    }
+    let o = holder(rows, p);
+    renew_at(rows, at, p, d);
+    displace_others(rows, o, p);
+    results::TAKEN
 }
 
-pub fn hear_report(t: Table, p: Report) -> Hearing
-    requires { ⌜ TableKept t ⌝ }
-    ensures { λ r. ⌜ r ≡ hearingOf (placed p (live t)) ⌝ }
+// The result of a report, and the stations after it.
+pub fn hear_report(rows: &mut [u64; ROW_WORDS], p: Report) -> u8
+    requires { ⌜ RowsKept (now rows) ⌝ }
+    ensures { λ r. ⌜ left (now (rows .exit)) r ≡ leftBy (placed p (stationsIn (now (rows .entry)))) ⌝ }
 {
-    let f = find_station(t, p.address);
-    match f {
-        Found::Nothing => hear_new(t, p),
-        Found::At(at) => hear_known(t, at, p),
+    let at = rank(rows, p.address);
+    if at < count(rows) {
+        if address_in(rows, at) == p.address {
+            return hear_known(rows, at, p);
+        }
+        return hear_new(rows, at, p);
     }
+    hear_new(rows, at, p)
 }

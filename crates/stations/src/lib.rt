@@ -1,4 +1,4 @@
-// The station table: a report heard, ages, the purge of a ringlet, attributes.
+// The station table, in words that the caller lends: a report heard, ages, the purge of a ringlet, attributes.
 // Follows 01, section Stations.
 // Stands on blocks and wire.
 mod age;
@@ -7,20 +7,25 @@ mod find;
 mod give;
 mod hear;
 mod insert;
+mod look;
 mod purge;
+mod rows;
 mod station;
-mod table;
 
 pub use age::raise_ages;
 pub use find::Found;
-pub use find::attributes_at;
 pub use find::find_station;
-pub use find::hop_at;
 pub use give::give_attributes;
-pub use hear::Hearing;
 pub use hear::hear_report;
+pub use look::attributes_at;
+pub use look::east_at;
+pub use look::hop_at;
+pub use look::station_count;
+pub use look::west_at;
 pub use purge::purge_ringlet;
+pub use rows::PLACES;
+pub use rows::ROW_WORDS;
+pub use rows::clear_table;
 pub use station::Report;
 pub use station::Station;
 pub use station::side;
-pub use table::Table;

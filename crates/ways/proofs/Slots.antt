@@ -10,10 +10,8 @@ use borrow.Author.Tests.{eqb-true, eqb-false}
 use lib.ListN.{length, drop, getD, set, replicate, length-set, getD-replicate}
 use lib.Seq.{drop-cons, getD-set-same, getD-set-other, drop-length}
 use Rattle.stations.specs.Station.{hop}
-use Rattle.stations.specs.Table.{TableKept, blank, live}
+use Rattle.stations.specs.Stations.{capacity}
 use Rattle.stations.specs.declared.station.Station.{Station}
-use Rattle.stations.specs.declared.table.Table.{Table}
-use Rattle.stations.proofs.Tables.{live-long, place-is}
 use Rattle.ways.specs.Walk.{Ends, held}
 use Rattle.ways.specs.Steps.{slots}
 
@@ -43,12 +41,13 @@ slot-read r j i (s ∷ l) low = go (eqb (hop r s) j) refl (slot-read r j (suc i)
         rw q (getD-set-same (slots r (suc i) l) j i 0 (omega (arith, slots-long r (suc i) l)))
     go false p ih = getD-set-other (slots r (suc i) l) (hop r s) j i 0 (λ q. eqb-false _ _ p (sym q)) ∙ ih
 
-place-none : (r j i : ℕ) (l : List Station) → i + length l ≤ 63 → placeOf r j i l ≡ 255 → held r j l ≡ none
+-- Every station has a place below the capacity, so that any other number, as 255, says that none holds the hop.
+place-none : (r j i : ℕ) (l : List Station) → i + length l ≤ capacity → capacity ≤ placeOf r j i l → held r j l ≡ none
 unfolding placeOf held
 place-none r j i [] room h = refl
 place-none r j i (s ∷ l) room h = go (eqb (hop r s) j) (place-none r j (suc i) l (omega arith)) h
   where
-    go : (b : Bool) → (placeOf r j (suc i) l ≡ 255 → held r j l ≡ none) → cond b i (placeOf r j (suc i) l) ≡ 255
+    go : (b : Bool) → (capacity ≤ placeOf r j (suc i) l → held r j l ≡ none) → capacity ≤ cond b i (placeOf r j (suc i) l)
         → cond b (some (endsOf s)) (held r j l) ≡ none
     go true ih h = absurd (omega arith)
     go false ih h = ih h
@@ -56,31 +55,27 @@ place-none r j i (s ∷ l) room h = go (eqb (hop r s) j) (place-none r j (suc i)
 -- The station at place k, counted from i, is the one that holds hop j.
 record Holds (r j i k : ℕ) (l : List Station) (d : Station) : Type 0 where
   low : i ≤ k
-  high : k < i + length l
   holds : held r j l ≡ some (endsOf (getD l (k - i) d))
 
-place-some : (r j i : ℕ) (l : List Station) (d : Station) → (placeOf r j i l ≡ 255 → ⊥) → Holds r j i (placeOf r j i l) l d
+place-some : (r j i : ℕ) (l : List Station) (d : Station) → placeOf r j i l < capacity → Holds r j i (placeOf r j i l) l d
 unfolding placeOf held
-place-some r j i [] d h = absurd (h refl)
+place-some r j i [] d h = absurd (omega arith)
 place-some r j i (s ∷ l) d h = go (eqb (hop r s) j) refl (place-some r j (suc i) l d) h
   where
-    go : (b : Bool) → eqb (hop r s) j ≡ b → ((placeOf r j (suc i) l ≡ 255 → ⊥) → Holds r j (suc i) (placeOf r j (suc i) l) l d)
-        → (cond b i (placeOf r j (suc i) l) ≡ 255 → ⊥) → Holds r j i (cond b i (placeOf r j (suc i) l)) (s ∷ l) d
+    go : (b : Bool) → eqb (hop r s) j ≡ b → (placeOf r j (suc i) l < capacity → Holds r j (suc i) (placeOf r j (suc i) l) l d)
+        → cond b i (placeOf r j (suc i) l) < capacity → Holds r j i (cond b i (placeOf r j (suc i) l)) (s ∷ l) d
     go true q ih h =
         let z : i - i ≡ 0 = omega arith in
-        record { low = omega arith; high = omega arith; holds = rw (q, z) }
+        record { low = omega arith; holds = rw (q, z) }
     go false q ih h =
         let p : Holds r j (suc i) (placeOf r j (suc i) l) l d = ih h in
         let z : placeOf r j (suc i) l - i ≡ suc (placeOf r j (suc i) l - suc i) = omega (arith, p .low) in
-        record { low = omega (arith, p .low); high = omega (arith, p .high); holds = rw (q, z) (p .holds) }
+        record { low = omega (arith, p .low); holds = rw (q, z) (p .holds) }
 
 -- No station yet: at every hop 255.
-start-of : (r : ℕ) (l : List Station) (n : ℕ) → n ≡ length l → replicate 256 255 ≡ slots r n (drop n l)
+pub slots-start : {n : ℕ} (r : ℕ) (l : List Station) → n ≡ length l → replicate 256 255 ≡ slots r n (drop n l)
 unfolding slots
-start-of r l n q = rw (q, drop-length)
-
-pub slots-start : {t : Table} → TableKept t → (r : ℕ) → replicate 256 255 ≡ slots r (t .count) (drop (t .count) (live t))
-slots-start {t} k r = start-of r (live t) (t .count) (sym (live-long k))
+slots-start r l q = rw (q, drop-length)
 
 step-of : (r : ℕ) (l : List Station) (x : List ℕ) (i : ℕ) (d : Station) → i < length l → x ≡ slots r (suc i) (drop (suc i) l)
     → set x (hop r (getD l i d)) i ≡ slots r i (drop i l)
@@ -88,39 +83,25 @@ unfolding slots
 step-of r l x i d h q = rw (q, drop-cons l i d)
 
 -- One station more, before the others.
-pub slots-step : {t : Table} {x : List ℕ} {h : ℕ} (r i : ℕ) (d : Station) → TableKept t → 0 < i → i ≤ t .count
-    → x ≡ slots r i (drop i (live t)) → h ≡ hop r (getD (t .places) (i - 1) d)
-    → set x h (i - 1) ≡ slots r (i - 1) (drop (i - 1) (live t))
-slots-step {t} {x} {h} r i d k p few q eq =
+pub slots-step : {x : List ℕ} {h : ℕ} (r i : ℕ) (l : List Station) (d : Station) → 0 < i → i ≤ length l → x ≡ slots r i (drop i l)
+    → h ≡ hop r (getD l (i - 1) d) → set x h (i - 1) ≡ slots r (i - 1) (drop (i - 1) l)
+slots-step {x} r i l d p few q eq =
     let s : i ≡ suc (i - 1) = omega arith in
-    let inside : i - 1 < length (live t) = omega (arith, live-long k) in
-    let same : h ≡ hop r (getD (live t) (i - 1) d) = eq ∙ ap (hop r) (place-is t (i - 1) d (omega arith)) in
-    rw same (step-of r (live t) x (i - 1) d inside (subst (λ (n : ℕ). x ≡ slots r n (drop n (live t))) s q))
+    rw eq (step-of r l x (i - 1) d (omega arith) (subst (λ (n : ℕ). x ≡ slots r n (drop n l)) s q))
 
 -- No station left.
 pub slots-all : {x : List ℕ} (r i : ℕ) (l : List Station) → i ≤ 0 → x ≡ slots r i (drop i l) → x ≡ slots r 0 l
 slots-all {x} r i l low q = let z : i ≡ 0 = omega arith in rw z at q
 
--- What the index says of a table that is kept.
-module _ {t : Table} {x : List ℕ} (r : ℕ) (k : TableKept t) (q : x ≡ slots r 0 (live t)) where
-  says : (j : ℕ) → j < 256 → getD x j 0 ≡ placeOf r j 0 (live t)
-  says j low = ap (λ (y : List ℕ). getD y j 0) q ∙ slot-read r j 0 (live t) low
+-- What the index of a list says of it.
+module _ {x : List ℕ} (r : ℕ) (l : List Station) (q : x ≡ slots r 0 l) (j : ℕ) (low : j < 256) where
+  says : getD x j 0 ≡ placeOf r j 0 l
+  says = ap (λ (y : List ℕ). getD y j 0) q ∙ slot-read r j 0 l low
 
-  pub index-none : (j : ℕ) → j < 256 → getD x j 0 ≡ 255 → held r j (live t) ≡ none
-  index-none j low h = place-none r j 0 (live t) (omega (arith, live-long k, k .few)) (sym (says j low) ∙ h)
+  pub index-none : length l ≤ capacity → capacity ≤ getD x j 0 → held r j l ≡ none
+  index-none few h = place-none r j 0 l (omega arith) (omega (arith, says))
 
-  holder : (j : ℕ) (d : Station) → j < 256 → (getD x j 0 ≡ 255 → ⊥) → Holds r j 0 (getD x j 0) (live t) d
-  holder j d low h = subst (λ (p : ℕ). Holds r j 0 p (live t) d) (sym (says j low)) (place-some r j 0 (live t) d (λ z. h (says j low ∙ z)))
-
-  index-low : (j : ℕ) → j < 256 → (getD x j 0 ≡ 255 → ⊥) → getD x j 0 < t .count
-  index-low j low h = omega (arith, holder j blank low h .high, live-long k)
-
-  pub index-inside : (j : ℕ) → j < 256 → (getD x j 0 ≡ 255 → ⊥) → getD x j 0 < 63
-  index-inside j low h = omega (arith, index-low j low h, k .few)
-
-  pub index-held : (j : ℕ) (d : Station) → j < 256 → (getD x j 0 ≡ 255 → ⊥)
-      → held r j (live t) ≡ some (endsOf (getD (t .places) (getD x j 0) d))
-  index-held j d low h =
-      let z : getD x j 0 - 0 ≡ getD x j 0 = omega arith in
-      let p : held r j (live t) ≡ some (endsOf (getD (live t) (getD x j 0) d)) = rw z at (holder j d low h .holds) in
-      p ∙ ap (λ (s : Station). some (endsOf s)) (sym (place-is t (getD x j 0) d (index-low j low h)))
+  pub index-held : (d : Station) → getD x j 0 < capacity → held r j l ≡ some (endsOf (getD l (getD x j 0) d))
+  index-held d h =
+      let z : placeOf r j 0 l - 0 ≡ getD x j 0 = omega (arith, says) in
+      rw z at (place-some r j 0 l d (omega (arith, says)) .holds)

@@ -3,9 +3,9 @@ use crate::walk::Walked;
 use crate::walk::walk_to;
 use spans::codes::SF;
 use stations::Found;
-use stations::Table;
+use stations::ROW_WORDS;
 ghost use mathlib.Core.Path.{_≡_};
-ghost use Rattle.stations.specs.Table.{TableKept, live};
+ghost use Rattle.stations.specs.Rows.{RowsKept, stationsIn};
 ghost use Rattle.ways.specs.Choice.{way, wayTo, number};
 ghost use Rattle.ways.specs.Steps.{sideOf, betterOf, choiceOf};
 
@@ -22,15 +22,15 @@ pub enum Side {
     Open { worst: u8, hops: u8 },
 }
 
-// One direction to a station at hop h of its ringlet.
-fn look(t: Table, ringlet: u8, own: u8, h: u8) -> Side
-    requires { ⌜ TableKept t ⌝ }
-    ensures { λ r. ⌜ r ≡ sideOf (way ringlet own (live t) h) ⌝ }
+// One direction to a station at hop h of its ringlet; the index is room for the walk.
+fn look(index: &mut [u8; 256], rows: &[u64; ROW_WORDS], ringlet: u8, own: u8, h: u8) -> Side
+    requires { ⌜ RowsKept (now rows) ⌝ }
+    ensures { λ r. ⌜ r ≡ sideOf (way ringlet own (stationsIn (now (rows .entry))) h) ⌝ }
 {
     if h == 0 {
         return Side::Closed;
     }
-    let w = walk_to(t, ringlet, own, h);
+    let w = walk_to(index, rows, ringlet, own, h);
     match w {
         Walked::Broken => Side::Closed,
         Walked::Worst(worst) => {
@@ -77,17 +77,20 @@ fn choose(west: Side, east: Side) -> Reply
 }
 
 // The way to the station of an address, from the own requests west and east.
-pub fn way_to(t: Table, west: u8, east: u8, address: u64) -> Reply
-    requires { ⌜ TableKept t ⌝ }
-    ensures { λ r. ⌜ r ≡ wayTo west east (live t) address ⌝ }
+pub fn way_to(rows: &[u64; ROW_WORDS], west: u8, east: u8, address: u64) -> Reply
+    requires { ⌜ RowsKept (now rows) ⌝ }
+    ensures { λ r. ⌜ r ≡ wayTo west east (stationsIn (now (rows .entry))) address ⌝ }
 {
-    let f = stations::find_station(t, address);
+    let f = stations::find_station(rows, address);
     match f {
         Found::Nothing => Reply::Unknown,
         Found::At(at) => {
-            let hop0 = stations::hop_at(t, at, 0);
-            let hop1 = stations::hop_at(t, at, 1);
-            choose(look(t, 0, west, hop0), look(t, 1, east, hop1))
+            let hop0 = stations::hop_at(rows, at, 0);
+            let hop1 = stations::hop_at(rows, at, 1);
+            let mut index = [255u8; 256];
+            let west_side = look(&mut index, rows, 0, west, hop0);
+            let east_side = look(&mut index, rows, 1, east, hop1);
+            choose(west_side, east_side)
         }
     }
 }

@@ -1,8 +1,9 @@
 // One pass over the table to find who stands at each hop, and one along the hops. The side is the ringlet: 0 is west, any other number east.
-use stations::Table;
+use stations::PLACES;
+use stations::ROW_WORDS;
 use stations::side;
 ghost use mathlib.Core.Path.{_≡_};
-ghost use Rattle.stations.specs.Table.{TableKept, live};
+ghost use Rattle.stations.specs.Rows.{RowsKept, stationsIn};
 ghost use Rattle.ways.specs.Walk.{walk};
 ghost use Rattle.ways.specs.Steps.{slots, walked};
 
@@ -11,25 +12,30 @@ pub enum Walked {
     Worst(u8),
 }
 
-// The place of the station at each hop; 255 where there is none. From the last station to the first, so that the first one counts.
-fn index_of(t: Table, ringlet: u8) -> [u8; 256]
-    requires { ⌜ TableKept t ⌝ }
-    ensures { λ r. ⌜ r ≡ slots ringlet 0 (live t) ⌝ }
+// The place of the station at each hop of a ringlet; 255 where there is none. From the last station to the first, so that the first one counts.
+fn fill_index(index: &mut [u8; 256], rows: &[u64; ROW_WORDS], ringlet: u8)
+    requires { ⌜ RowsKept (now rows) ⌝ }
+    ensures { λ _. ⌜ now (index .exit) ≡ slots ringlet 0 (stationsIn (now (rows .entry))) ⌝ }
 {
-    let mut index = [255u8; 256];
-    let mut i = t.count;
+    *index = [255; 256];
+    let mut i = stations::station_count(rows);
     while 0 < i {
         i -= 1;
-        let hop = side(ringlet, t.places[i].hop0, t.places[i].hop1) as usize;
+        let hop = stations::hop_at(rows, i, ringlet) as usize;
         index[hop] = i as u8;
     }
-    index
+}
+
+fn wide(k: u8) -> usize
+    ensures { λ r. ⌜ r ≡ k ⌝ }
+{
+    k as usize
 }
 
 // The walk over the hops 1 to h, with the index of its ringlet.
-fn walk_along(t: Table, index: [u8; 256], ringlet: u8, own: u8, h: u8) -> Walked
-    requires { ⌜ TableKept t × (index ≡ slots ringlet 0 (live t)) ⌝ }
-    ensures { λ r. ⌜ r ≡ walked (walk ringlet own (live t) h) ⌝ }
+fn walk_along(index: &[u8; 256], rows: &[u64; ROW_WORDS], ringlet: u8, own: u8, h: u8) -> Walked
+    requires { ⌜ RowsKept (now rows) × (now index ≡ slots ringlet 0 (stationsIn (now rows))) ⌝ }
+    ensures { λ r. ⌜ r ≡ walked (walk ringlet own (stationsIn (now (rows .entry))) h) ⌝ }
 {
     let mut worst: u8 = 0;
     let mut end = own;
@@ -37,23 +43,29 @@ fn walk_along(t: Table, index: [u8; 256], ringlet: u8, own: u8, h: u8) -> Walked
     while j < h {
         j += 1;
         let at = j as usize;
-        let k = index[at] as usize;
-        if k == 255 {
+        let k = wide(index[at]);
+        if PLACES <= k {
             return Walked::Broken;
         }
-        let west = t.places[k].west;
-        let east = t.places[k].east;
+        let west = stations::west_at(rows, k);
+        let east = stations::east_at(rows, k);
         worst = spans::higher(worst, spans::higher(end, side(ringlet, east, west)));
         end = side(ringlet, west, east);
     }
     Walked::Worst(worst)
 }
 
-// The walk over the hops 1 to h of a ringlet, from the own request on that side.
-pub(crate) fn walk_to(t: Table, ringlet: u8, own: u8, h: u8) -> Walked
-    requires { ⌜ TableKept t ⌝ }
-    ensures { λ r. ⌜ r ≡ walked (walk ringlet own (live t) h) ⌝ }
+// The walk over the hops 1 to h of a ringlet, from the own request on that side. The index is room for it: what it held does not matter.
+pub(crate) fn walk_to(
+    index: &mut [u8; 256],
+    rows: &[u64; ROW_WORDS],
+    ringlet: u8,
+    own: u8,
+    h: u8,
+) -> Walked
+    requires { ⌜ RowsKept (now rows) ⌝ }
+    ensures { λ r. ⌜ r ≡ walked (walk ringlet own (stationsIn (now (rows .entry))) h) ⌝ }
 {
-    let index = index_of(t, ringlet);
-    walk_along(t, index, ringlet, own, h)
+    fill_index(index, rows, ringlet);
+    walk_along(index, rows, ringlet, own, h)
 }

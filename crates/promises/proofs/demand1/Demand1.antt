@@ -14,10 +14,7 @@ use Rattle.blocks.specs.Writing.{Wrote}
 use Rattle.blocks.proofs.RoundTrip.{refusal-leaves}
 use Rattle.controller.specs.State.{State, started}
 use Rattle.controller.specs.Record.{refusal, outcome}
-use Rattle.controller.specs.declared.node.Node.{Node}
-use Rattle.controller.specs.declared.node.Started.{Started}
-use Rattle.controller.specs.declared.record.Answer.{Answer}
-use Rattle.controller.specs.Node.{choiceOf, stateOf, nodeOf, startedWith}
+use Rattle.controller.specs.Node.{Node, Started, Answer, choiceOf, stateOf, nodeOf, startedWith}
 use Rattle.controller.specs.Kept.{Kept}
 use Rattle.controller.specs.Promise.{Begun, Recorded}
 use Rattle.promises.specs.Refusals.{numbers, tests, startTests, NoneApplies, FirstApplies}

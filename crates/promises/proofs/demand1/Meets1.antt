@@ -14,10 +14,10 @@ use Rattle.controller.specs.State.{started}
 use Rattle.controller.specs.Node.{choiceOf, stateOf, nodeOf, startedWith}
 use Rattle.controller.specs.Kept.{Kept}
 use Rattle.controller.specs.Promise.{Begun, Recorded}
-use Rattle.controller.proofs.Nodes.{answer-kept, started-with-kept}
+use Rattle.controller.proofs.Nodes.{answer-kept, started-with-shows, started-with-kept}
 use Rattle.promises.specs.Possible.{areBytes}
 use Rattle.promises.proofs.demand2.Possible.{are-bytes}
-use Rattle.promises.specs.Examples.{address, tick, report, attributes, settings}
+use Rattle.promises.specs.Examples.{tick, report, attributes, settings}
 use Rattle.promises.specs.Refusals.{tests, startTests, NoneApplies, FirstApplies}
 use Rattle.promises.specs.Cases.{got, due, fresh, joined, failed, alone, several, fine, buffer, begins}
 use Rattle.promises.proofs.demand1.Order.{firstOf, found}
@@ -46,7 +46,7 @@ joined-kept = answer-kept fresh (report 0 255 2 1 0 0) 7 (are-bytes (report 0 25
 
 pub recorded-met : Recorded joined (attributes 2 (0 ∷ [])) buffer buffer (record { node = joined; result = 8; wrote = false })
 unfolding joined cut known sound over
-recorded-met = record { is = refl; content = refl; kept = joined-kept }
+recorded-met = record { is = refl; shows = refl; content = refl; kept = joined-kept }
 
 -- Start: three bytes; a tick; settings of level 3; and settings that are taken.
 pub starts-met : map begins ((17 ∷ 0 ∷ 32 ∷ []) ∷ tick ∷ settings 3 0 ∷ settings 2 0 ∷ [])
@@ -64,4 +64,4 @@ start-none-met = found (stateOf fresh) (settings 2 0) 0 startTests
 
 pub begun-met : Begun tick (record { node = nodeOf (defaults 0) (started (choiceOf (defaults 0))); result = 3 })
 unfolding startedWith settingsIn headOf broken areBytes
-begun-met = record { is = refl; kept = started-with-kept tick (are-bytes tick refl) }
+begun-met = record { is = refl; shows = started-with-shows tick (are-bytes tick refl); kept = started-with-kept tick (are-bytes tick refl) }

@@ -12,9 +12,7 @@ use Rattle.controller.specs.State.{Spans, State}
 use Rattle.controller.specs.Handling.{acted, judged}
 use Rattle.controller.specs.Closing.{isTick}
 use Rattle.controller.specs.Record.{Outcome, refusal, refuses, closed, outcomeOf, outcome}
-use Rattle.controller.specs.declared.node.Node.{Node}
-use Rattle.controller.specs.declared.record.Answer.{Answer}
-use Rattle.controller.specs.Node.{stateOf, answerOf}
+use Rattle.controller.specs.Node.{Node, Answer, stateOf, answerOf}
 use Rattle.controller.specs.Kept.{Kept}
 use Rattle.controller.specs.Promise.{Recorded}
 use Rattle.controller.proofs.Nodes.{refused-same}

@@ -7,45 +7,39 @@ use Rattle.wire.specs.Report.{over}
 use Rattle.settings.specs.declared.choice.Settings.{Settings}
 use Rattle.settings.specs.Reading.{settingsIn}
 use Rattle.ways.specs.Choice.{number}
-use Rattle.controller.specs.declared.node.Node.{Node}
-use Rattle.controller.specs.declared.node.Started.{Started}
-use Rattle.controller.specs.declared.record.Answer.{Answer}
+use Rattle.controller.specs.Node.{Node, Started, Answer, settingsOf, stateOf, nodeOf, startedWith, answerOf, westRequest, eastRequest, steered, asked}
 use Rattle.controller.specs.State.{State}
 use Rattle.controller.specs.Record.{Outcome, outcome}
-use Rattle.controller.specs.Node.{choiceOf, stateOf, nodeOf, startedWith, answerOf, westRequest, eastRequest, steered, asked}
 use Rattle.controller.specs.Kept.{Kept}
 use Rattle.controller.specs.Promise.{Begun, Recorded}
-use Rattle.controller.proofs.Nodes.{state-of-node}
+use Rattle.controller.proofs.Nodes.{settings-told}
 use Rattle.promises.specs.History.{after, answered, startOf, Made, callOf, callsOf, nodeAfter, Met, Ruled, AnsweredAs}
-use Rattle.promises.proofs.demand2.AfterKept.{choice-after}
 
 record Came (c : Settings) (n : Node) (s : State) : Type 0 where
   is : n ≡ nodeOf c s
+  shows : stateOf n ≡ s
   kept : Kept n
 
 module _ (b : List ℕ) (st : Started) (begun : Begun b st) where
   abbrev c : Settings
   c = settingsIn b .settings
 
-  -- The state of the rules after calls, and that it is one of these settings.
+  -- The state of the rules after calls.
   abbrev stateAfter : List Made → State
   stateAfter h = after (startOf b) (callsOf h)
 
-  choice-is : (h : List Made) → stateAfter h .choice ≡ choiceOf c
-  unfolding startOf
-  choice-is h = choice-after (startOf b) (callsOf h)
-
-  state-is : (h : List Made) (n : Node) → Came c n (stateAfter h) → stateOf n ≡ stateAfter h
-  state-is h n k = ap stateOf (k .is) ∙ state-of-node c (stateAfter h) (choice-is h)
+  -- The settings in the words are those of the start.
+  settings-is : (h : List Made) (n : Node) → Came c n (stateAfter h) → settingsOf n ≡ c
+  settings-is h n k = settings-told n c (stateAfter h) (k .kept) (k .is)
 
   -- What the rules make of a call at a node is what they make of it in their own state.
   outcome-is : (h : List Made) (n : Node) (m : Made) → Came c n (stateAfter h)
       → outcome (stateOf n) (m .bytes) (length (m .old)) ≡ answered (startOf b) (callsOf h) (callOf m)
-  outcome-is h n m k = ap (λ (s : State). outcome s (m .bytes) (length (m .old))) (state-is h n k)
+  outcome-is h n m k = ap (λ (s : State). outcome s (m .bytes) (length (m .old))) (k .shows)
 
   came : (h : List Made) → Met st h → Came c (nodeAfter st h) (stateAfter h)
   unfolding Met callsOf after startedWith startOf
-  came [] met = record { is = ap (λ (x : Started). x .node) (begun .is); kept = begun .kept }
+  came [] met = record { is = ap (λ (x : Started). x .node) (begun .is); shows = begun .shows; kept = begun .kept }
   came (m ∷ h) met = go (came h (met .1))
     where
       go : Came c (nodeAfter st h) (stateAfter h) → Came c (m .answer .node) (stateAfter (m ∷ h))
@@ -55,13 +49,14 @@ module _ (b : List ℕ) (st : Started) (begun : Begun b st) where
           record {
             is =
                 ap (λ (x : Answer). x .node) (r .is)
-                ∙ ap (λ (o : Outcome). nodeOf (n .core .settings) (o .state)) (outcome-is h n m k)
-                ∙ ap (λ (x : Node). nodeOf (x .core .settings) (stateAfter (m ∷ h))) (k .is);
+                ∙ ap (λ (o : Outcome). nodeOf (settingsOf n) (o .state)) (outcome-is h n m k)
+                ∙ ap (λ (x : Settings). nodeOf x (stateAfter (m ∷ h))) (settings-is h n k);
+            shows = r .shows ∙ ap (λ (o : Outcome). o .state) (outcome-is h n m k);
             kept = r .kept;
           }
 
   pub state-after : (h : List Made) → Met st h → stateOf (nodeAfter st h) ≡ stateAfter h
-  state-after h met = state-is h (nodeAfter st h) (came h met)
+  state-after h met = came h met .shows
 
   pub ruled : (h : List Made) → Met st h → Ruled b (nodeAfter st h) (stateAfter h)
   ruled h met =

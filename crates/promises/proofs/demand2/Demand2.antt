@@ -8,9 +8,8 @@ use mathlib.Core.List.{List, [], _∷_}
 use lib.ListN.{take, drop}
 use Rattle.wire.specs.Report.{ReadsBack}
 use Rattle.stations.specs.Kept.{StationsKept}
-use Rattle.controller.specs.declared.node.Started.{Started}
+use Rattle.controller.specs.Node.{Started, stateOf, westRequest, eastRequest}
 use Rattle.controller.specs.Promise.{Begun}
-use Rattle.controller.specs.Node.{stateOf, westRequest, eastRequest}
 use Rattle.promises.specs.History.{after, answered, Always, startOf, Made, callOf, callsOf, nodeAfter, Met, Ruled, AnsweredAs}
 use Rattle.promises.proofs.demand2.Telling.{report-tells, silent-stays}
 use Rattle.promises.proofs.demand2.Coming.{ruled, answered-as}

@@ -4,10 +4,9 @@ use mathlib.Core.Path.{_≡_, refl, _∙_, ap, subst}
 use mathlib.Core.List.{List, [], _∷_, reverse, map}
 use lib.ListN.{length, replicate}
 use Rattle.wire.specs.Fields.{Bytes}
-use Rattle.controller.specs.declared.node.Started.{Started}
+use Rattle.controller.specs.Node.{Started, stateOf, startedWith}
 use Rattle.controller.specs.State.{State}
 use Rattle.controller.specs.Record.{Outcome, refuses}
-use Rattle.controller.specs.Node.{stateOf, startedWith}
 use Rattle.promises.specs.History.{Call, after, answered, startOf, AllBytes, Made, callsOf, nodeAfter, Met, AnsweredAs}
 use Rattle.promises.specs.Possible.{Handed, AllHanded, made}
 use Rattle.promises.specs.Drilled.{callsFor, Drilled}

@@ -8,21 +8,25 @@ use lib.ListN.{length}
 use lib.Dec.{ltb}
 use borrow.Author.Tests.{ltb-true}
 use Rattle.wire.specs.Fields.{Bytes}
-use Rattle.controller.specs.declared.node.Started.{Started}
-use Rattle.controller.specs.Node.{startedWith}
+use Rattle.controller.specs.Node.{Started, startedWith}
 use Rattle.controller.specs.Promise.{Begun}
-use Rattle.controller.proofs.Nodes.{answer-kept, started-with-kept}
+use Rattle.controller.proofs.Nodes.{answer-shows, answer-kept, started-with-shows, started-with-kept}
 use Rattle.promises.specs.History.{Call, AllBytes, callsOf, Met, nodeAfter}
 use Rattle.promises.specs.Possible.{Handed, AllHanded, made, areBytes, allBytes}
 
 pub begins : (b : List ℕ) → Bytes b → Begun b (startedWith b)
-begins b bytes = record { is = refl; kept = started-with-kept b bytes }
+begins b bytes = record { is = refl; shows = started-with-shows b bytes; kept = started-with-kept b bytes }
 
 pub made-met : (st : Started) (h : List Handed) → AllHanded h → Met st (made st h)
 unfolding AllHanded Met made
 made-met st [] bytes = tt
 made-met st (c ∷ h) bytes = (
-  λ k. record { is = refl; content = refl; kept = answer-kept (nodeAfter st (made st h)) (c .bytes) (length (c .old)) (bytes .0) k },
+  λ k. record {
+    is = refl;
+    shows = answer-shows (nodeAfter st (made st h)) (c .bytes) (length (c .old)) (bytes .0) k;
+    content = refl;
+    kept = answer-kept (nodeAfter st (made st h)) (c .bytes) (length (c .old)) (bytes .0) k;
+  },
   made-met st h (bytes .1),
 )
 

@@ -12,8 +12,7 @@ use Rattle.wire.proofs.ReadsBack.{report-reads-back, front-is-report}
 use Rattle.pacer.specs.declared.steps.Pacer.{Pacer}
 use Rattle.pacer.specs.declared.steps.Paced.{Paced}
 use Rattle.stations.specs.Hearing.{Placed}
-use Rattle.controller.specs.declared.node.Node.{Node}
-use Rattle.controller.specs.declared.record.Answer.{Answer}
+use Rattle.controller.specs.Node.{Node, Answer, stateOf, wrote, westRequest, eastRequest}
 use Rattle.controller.specs.declared.reading.Reading.{Reading}
 use Rattle.controller.specs.declared.reading.Reading.the-variants.{Refused}
 use Rattle.controller.specs.Reading.{blockOf, readIn, reading}
@@ -21,7 +20,6 @@ use Rattle.controller.specs.State.{Spans, State}
 use Rattle.controller.specs.Handling.{acted, judged}
 use Rattle.controller.specs.Closing.{settled, pacing, isTick, reportOf}
 use Rattle.controller.specs.Record.{Outcome, refusal, refuses, closed, outcomeOf, outcome}
-use Rattle.controller.specs.Node.{stateOf, wrote, westRequest, eastRequest}
 use Rattle.controller.specs.Promise.{Recorded}
 use Rattle.controller.proofs.Records.{over-none}
 
@@ -80,7 +78,7 @@ module _ (n : Node) (b old new : List ℕ) (r : Answer) (met : Recorded n b old 
   report-is : r .wrote ≡ true → o .report ≡ reportBytes (now .pacer .sequence) (westRequest now) (eastRequest now)
   unfolding outcome westRequest eastRequest
   report-is h =
-      let p : r .node .core .pacer ≡ o .state .pacer = ap (λ (x : Answer). x .node .core .pacer) (met .is) in
+      let p : now .pacer ≡ o .state .pacer = ap (λ (s : State). s .pacer) (met .shows) in
       outcome-tells (reading (stateOf n .choice .address) b (length old)) (blockOf b) (stateOf n) (sym wrote-is ∙ h)
       ∙ ap (λ (q : Pacer). reportBytes (q .sequence) (q .west) (q .east)) (sym p)
       ∙ ap (λ (w : ℕ). reportBytes (now .pacer .sequence) w (now .pacer .east)) (met .kept .state .pacer .west-is)

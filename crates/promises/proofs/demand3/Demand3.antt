@@ -10,9 +10,8 @@ use Rattle.wire.specs.Report.{over}
 use Rattle.settings.specs.Reading.{settingsIn}
 use Rattle.blocks.specs.Types.{knows}
 use Rattle.blocks.specs.Levels.{Sub}
-use Rattle.controller.specs.declared.node.Started.{Started}
+use Rattle.controller.specs.Node.{Started, stateOf}
 use Rattle.controller.specs.State.{Choice, started}
-use Rattle.controller.specs.Node.{stateOf}
 use Rattle.controller.specs.Promise.{Begun}
 use Rattle.promises.specs.History.{Call, after, answered, Always, startOf, Made, callsOf, nodeAfter, Met}
 use Rattle.promises.specs.Levels.{NoEight, latest, noBlocks, knowing, Levelled, SameAnswer, SameCall, withLevel, NoEightMade}

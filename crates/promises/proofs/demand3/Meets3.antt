@@ -14,6 +14,8 @@ use Rattle.blocks.specs.Types.{knows, good, among}
 use Rattle.blocks.specs.Entries.{cut}
 use Rattle.blocks.specs.Meaning.{known, has, sound, behind, value}
 use Rattle.stations.specs.Table.{blank, tableOf}
+use Rattle.stations.specs.Rows.{image, tableIn}
+use Rattle.controller.specs.Own.{ownOf}
 use Rattle.controller.specs.Promise.{Begun}
 use Rattle.controller.specs.Node.{startedWith, asked}
 use Rattle.promises.specs.History.{after, answered, startOf, callsOf, Met}
@@ -81,5 +83,5 @@ pub same-calls : callsOf (made smallNode handed) ≡ callsOf (made largeNode han
 same-calls = calls-made smallNode largeNode handed
 
 pub none-eight : NoEightMade (made largeNode handed)
-unfolding NoEightMade made startedWith tableOf blank settingsIn headOf broken fullIn fieldsOf inRange addressAt ticksOf cut known has sound behind value knows good among
+unfolding NoEightMade made startedWith tableOf image tableIn ownOf blank settingsIn headOf broken fullIn fieldsOf inRange addressAt ticksOf cut known has sound behind value knows good among
 none-eight = (λ e. omega arith, (λ e. omega arith, tt))

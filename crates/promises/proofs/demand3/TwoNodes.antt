@@ -10,10 +10,9 @@ use Rattle.settings.specs.Reading.{settingsIn}
 use Rattle.blocks.specs.Types.{knows}
 use Rattle.blocks.specs.Levels.{Sub}
 use Rattle.blocks.proofs.Known.{knows-more}
-use Rattle.controller.specs.declared.node.Started.{Started}
+use Rattle.controller.specs.Node.{Started, choiceOf, stateOf, wrote}
 use Rattle.controller.specs.State.{Choice, State, started}
 use Rattle.controller.specs.Record.{Outcome}
-use Rattle.controller.specs.Node.{choiceOf, stateOf, wrote}
 use Rattle.controller.specs.Promise.{Begun}
 use Rattle.promises.specs.History.{Call, after, answered, startOf, Made, callOf, callsOf, nodeAfter, Met}
 use Rattle.promises.specs.Levels.{NoEight, latest, noBlocks, knowing, dressed, Levelled, SameAnswer, SameCall, withLevel, NoEightMade}

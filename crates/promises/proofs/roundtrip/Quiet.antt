@@ -30,8 +30,8 @@ use Rattle.controller.specs.Handling.{acted, gives, taking, learning, judged}
 use Rattle.controller.specs.Closing.{settled, purgedIf, swept, pacing, reportOf}
 use Rattle.controller.specs.Record.{unlessRefused, closed, outcomeOf}
 use Rattle.controller.specs.Kept.{StateKept}
+use Rattle.controller.proofs.Packing.{settled-none}
 use Rattle.promises.specs.Quiet.{withStations}
-use Rattle.promises.proofs.spans.OneRecord.{settled-same}
 
 -- Every station has a hop.
 abbrev pub EachPlaced : List Station → Type 0
@@ -74,7 +74,7 @@ module _ (s : State) (k : StateKept s) where
   unfolding closed pacing
   closed-still j all west east =
       let t : Ticks = s .choice .ticks in
-      let y : settled t (s .spans) (s .spans) ≡ s .spans = settled-same t (s .spans) in
+      let y : settled t (s .spans) (s .spans) ≡ s .spans = settled-none t (s .spans) in
       let l : swept t (settled t (s .spans) (s .spans)) (j .stations) ≡ j .stations =
       ap (λ (z : Spans). swept t z (j .stations)) y ∙ swept-still (j .stations) all t (s .spans) west east in
       let d : pacing t false (settled t (s .spans) (s .spans)) (s .pacer) ≡ record { pacer = s .pacer; wrote = false } =

@@ -22,18 +22,14 @@ use Rattle.blocks.specs.Writing.{weightBytes, bandwidthBytes, bytesAt, unfit, r
 use Rattle.blocks.proofs.RoundTrip.{written-reads-back, buffer-reads-back}
 use Rattle.stations.specs.Stations.{given, present}
 use Rattle.stations.specs.Kept.{StationKept}
-use Rattle.controller.specs.declared.node.Node.{Node}
-use Rattle.controller.specs.declared.record.Answer.{Answer}
+use Rattle.controller.specs.Node.{Node, Answer, choiceOf, settingsOf, stateOf, asked}
 use Rattle.controller.specs.declared.reading.Reading.{Reading}
 use Rattle.controller.specs.declared.reading.Reading.the-variants.{Block}
 use Rattle.controller.specs.State.{State, spanOf}
 use Rattle.controller.specs.Handling.{gives}
 use Rattle.controller.specs.Record.{outcomeOf, outcome}
-use Rattle.controller.specs.Node.{choiceOf, spansIn, stateOf, answerOf, asked}
 use Rattle.controller.specs.Kept.{StateKept, Kept}
 use Rattle.controller.specs.Promise.{Recorded}
-use Rattle.controller.proofs.Holding.{outcome-choice}
-use Rattle.controller.proofs.Nodes.{state-of-node}
 use Rattle.promises.specs.History.{after, startOf}
 use Rattle.promises.specs.Examples.{report, settings, station}
 use Rattle.promises.specs.Quiet.{withStations}
@@ -115,31 +111,27 @@ handed-over level w0 w1 b0 b1 h0 h1 k0 k1 span a side small =
 
 -- The same as `heard-back` by the contract of the record call, of a node that is kept.
 module _ (n : Node) (k : Kept n) (w0 w1 b0 b1 span a : ℕ) (side : span ≤ 1)
-    (up : down (ticksOf (n .core .settings)) (spanOf span (spansIn (n .core))) ≡ false) (there : present a (stateOf n .stations) ≡ true)
+    (up : down (ticksOf (settingsOf n)) (spanOf span (stateOf n .spans)) ≡ false) (there : present a (stateOf n .stations) ≡ true)
     (old new : List ℕ) (enough : 7 ≤ length old) (r : Answer) where
-  values-answered : (b : List ℕ) → length b ≤ 1024 → blockAt (n .core .settings .level) b ≡ Values w0 w1 b0 b1
+  values-answered : (b : List ℕ) → length b ≤ 1024 → blockAt (settingsOf n .level) b ≡ Values w0 w1 b0 b1
       → Recorded n (attributeRecord span a b) old new r → (r .result ≡ 0) × (asked (stateOf (r .node)) a ≡ values w0 w1 b0 b1)
   unfolding blockAt
   values-answered b short reads c =
       let (taken, told) = values-heard (stateOf n) (k .state) span a (length old) side there enough w0 w1 b0 b1 b short up reads in
-      let same : stateOf (answerOf n (outcome (stateOf n) (attributeRecord span a b) (length old)) .node)
-      ≡ outcome (stateOf n) (attributeRecord span a b) (length old) .state =
-      state-of-node (n .core .settings) (outcome (stateOf n) (attributeRecord span a b) (length old) .state)
-      (outcome-choice (stateOf n) (attributeRecord span a b) (length old)) in
-      rw (c .is) (taken, ap (λ (s : State). asked s a) same ∙ told)
+      (ap (λ (x : Answer). x .result) (c .is) ∙ taken, ap (λ (s : State). asked s a) (c .shows) ∙ told)
 
-  pub answered-back : unfit (n .core .settings .level) w0 w1 b0 b1 ≡ false
-      → Recorded n (attributeRecord span a (bytesAt (n .core .settings .level) w0 w1 b0 b1)) old new r
+  pub answered-back : unfit (settingsOf n .level) w0 w1 b0 b1 ≡ false
+      → Recorded n (attributeRecord span a (bytesAt (settingsOf n .level) w0 w1 b0 b1)) old new r
       → (r .result ≡ 0) × (asked (stateOf (r .node)) a ≡ values w0 w1 b0 b1)
   answered-back fits =
-      let level : ℕ = n .core .settings .level in
+      let level : ℕ = settingsOf n .level in
       values-answered (bytesAt level w0 w1 b0 b1) (omega (arith, few-bytes level w0 w1 b0 b1)) (written-reads-back level w0 w1 b0 b1 fits)
 
   -- And by the contract of the writer too: the block is what a call that answered 0 left at the front of its buffer.
-  pub written-and-heard : (before after : List ℕ) (w : Written) → Wrote (n .core .settings .level) w0 w1 b0 b1 before after w → w .result ≡ 0
+  pub written-and-heard : (before after : List ℕ) (w : Written) → Wrote (settingsOf n .level) w0 w1 b0 b1 before after w → w .result ≡ 0
       → Recorded n (attributeRecord span a (take (w .length) after)) old new r → (r .result ≡ 0) × (asked (stateOf (r .node)) a ≡ values w0 w1 b0 b1)
   written-and-heard before after w c done =
-      let level : ℕ = n .core .settings .level in
+      let level : ℕ = settingsOf n .level in
       values-answered (take (w .length) after) (omega (arith, length-take (w .length) after, few-written level w0 w1 b0 b1 before after w c))
       (buffer-reads-back level w0 w1 b0 b1 before after w c done)
 

@@ -26,9 +26,7 @@ use Rattle.controller.specs.State.{Spans, State, spanOf}
 use Rattle.controller.specs.Handling.{cabled, acted, gives, hearing, taking, learning, judged}
 use Rattle.controller.specs.Closing.{isTick}
 use Rattle.controller.specs.Record.{Outcome, refuses, unlessRefused, outcomeOf, outcome}
-use Rattle.controller.specs.declared.node.Node.{Node}
-use Rattle.controller.specs.declared.record.Answer.{Answer}
-use Rattle.controller.specs.Node.{stateOf, answerOf}
+use Rattle.controller.specs.Node.{Node, Answer, settingsOf, stateOf, answerOf}
 use Rattle.controller.specs.Kept.{StateKept, Kept}
 use Rattle.controller.specs.Promise.{Recorded}
 use Rattle.controller.proofs.Nodes.{refused-same}
@@ -155,12 +153,12 @@ module _ (s : State) (b : List ℕ) (room : ℕ) where
 -- Of a call that met its contract.
 module _ {n : Node} {b old new : List ℕ} {r : Answer} (h : Recorded n b old new r) where
   pub recorded-only-mark : 20 ≤ r .result → r .result ≤ 23
-      → OnlyMark (stateOf n) (blockOf b) (r .result) (reading (n .core .settings .address) b (length old))
+      → OnlyMark (stateOf n) (blockOf b) (r .result) (reading (settingsOf n .address) b (length old))
   recorded-only-mark high low =
       let is : r .result ≡ outcome (stateOf n) b (length old) .result = recorded-result h in
       rw is (only-mark (stateOf n) b (length old) (omega arith) (omega arith))
 
-  pub recorded-block-down : Kept n → (m a : ℕ) → reading (n .core .settings .address) b (length old) ≡ Block m a → r .result ≡ 21
+  pub recorded-block-down : Kept n → (m a : ℕ) → reading (settingsOf n .address) b (length old) ≡ Block m a → r .result ≡ 21
       → (r ≡ record { node = n; result = 21; wrote = false }) × (new ≡ old)
   recorded-block-down k m a is result =
       let same : outcome (stateOf n) b (length old) ≡ refuses 21 (stateOf n) =

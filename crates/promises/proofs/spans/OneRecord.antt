@@ -3,19 +3,14 @@ use Prim.Native.Nat.{ℕ}
 use mathlib.Core.Path.{_≡_, refl, sym, _∙_, ap}
 use mathlib.Core.Bool.{Bool, true, false, not, cond, _||_, false≢true}
 use mathlib.Core.List.{List, [], _∷_}
-use mathlib.Core.Option.{Option, none, some}
-use lib.ListN.{length}
-use lib.Dec.{eqb, ltb}
+use lib.Dec.{eqb}
 use Rattle.settings.specs.declared.choice.Ticks.{Ticks}
 use Rattle.spans.specs.declared.span.Span.{Span}
 use Rattle.spans.specs.Records.{ticked, marked}
-use Rattle.spans.specs.Requests.{automatic, down, waited}
-use Rattle.spans.proofs.Waiting.{waited-same}
+use Rattle.spans.specs.Requests.{automatic, waited}
 use Rattle.blocks.specs.Meaning.{meaning}
-use Rattle.stations.specs.declared.station.Station.{Station}
 use Rattle.stations.specs.declared.station.Report.{Report}
-use Rattle.stations.specs.Stations.{capacity, displaced, sequenceOf}
-use Rattle.stations.specs.Hearing.{Placed, distance, placedKnown, placedNew, placedBy, placed}
+use Rattle.stations.specs.Hearing.{Placed}
 use Rattle.stations.proofs.Lists.{chosen}
 use Rattle.controller.specs.declared.reading.Reading.{Reading}
 use Rattle.controller.specs.declared.reading.Reading.the-variants.{Refused, Tick, Link, Keepalive, Operator, Heard, Block}
@@ -23,33 +18,12 @@ use Rattle.controller.specs.Reading.{blockOf}
 use Rattle.controller.specs.State.{Choice, Spans, State, spanOf, withSpan}
 use Rattle.controller.specs.Handling.{cabled, acted, gives, hearing, learning, judged}
 use Rattle.controller.specs.Closing.{isTick, settled}
-use Rattle.controller.specs.Steps.{leavesTable}
 use Rattle.controller.specs.Record.{Outcome, refusal, closed, unlessRefused, outcomeOf, outcome}
+use Rattle.controller.proofs.Packing.{settled-none}
+use Rattle.controller.proofs.Handing.{hearing-taken}
 use Rattle.promises.specs.History.{Call, after}
-use Rattle.promises.specs.Spans.{readAs, spanAfter}
+use Rattle.promises.specs.Spans.{leavesTable, readAs, spanAfter}
 use Rattle.promises.proofs.demand2.AfterKept.{choice-after}
-
-pub settled-same : (t : Ticks) (x : Spans) → settled t x x ≡ x
-unfolding settled
-settled-same t x = λ i. record {
-  west = waited-same t (automatic t (x .west)) (x .west) refl i;
-  east = waited-same t (automatic t (x .east)) (x .east) refl i;
-}
-
--- A report that was read is never refused: 0, or 20 to 23.
-abbrev Taken : Placed → Type 0
-Taken j = refusal (j .result) ≡ false
-
-placed-taken : (o : Option ℕ) (p : Report) (l : List Station) → Taken (placedBy o p l)
-unfolding placedKnown placedNew
-placed-taken none p l = chosen Taken (ltb (length (displaced p l)) capacity) (λ h. refl) (λ h. refl)
-placed-taken (some stored) p l = chosen Taken (ltb 128 (distance (p .sequence) stored)) (λ h. refl) (λ h. refl)
-
-heard-taken : (t : Ticks) (n : ℕ) (p : Report) (x : Spans) (l : List Station) → Taken (hearing t n p x l)
-unfolding hearing placed
-heard-taken t n p x l =
-    chosen Taken (eqb (p .ringlet) n)
-    (λ h. chosen Taken (down t (spanOf n x)) (λ h. refl) (λ h. placed-taken (sequenceOf (p .address) l) p l)) (λ h. refl)
 
 module _ (s : State) (b : List ℕ) where
   abbrev ticks : Ticks
@@ -60,7 +34,7 @@ module _ (s : State) (b : List ℕ) where
   unfolding closed
   stays j =
       chosen (λ (o : Outcome). o .state .spans ≡ settled ticks (s .spans) (s .spans)) (refusal (j .result))
-      (λ h. sym (settled-same ticks (s .spans))) (λ h. refl)
+      (λ h. sym (settled-none ticks (s .spans))) (λ h. refl)
 
   pub spans-of : (r : Reading) → outcomeOf r b s .state .spans ≡ settled ticks (s .spans) (acted ticks r (s .spans))
   unfolding outcomeOf acted judged closed
@@ -69,7 +43,7 @@ module _ (s : State) (b : List ℕ) where
   spans-of (Link n status) = refl
   spans-of (Keepalive n) = refl
   spans-of (Operator n request) = refl
-  spans-of (Heard n p) = rw (heard-taken ticks n p (cabled n p (s .spans)) (s .stations)) refl
+  spans-of (Heard n p) = rw (hearing-taken ticks n p (cabled n p (s .spans)) (s .stations)) refl
   spans-of (Block n a) = stays (learning ticks n a (meaning (s .choice .known) b) (s .spans) (s .stations))
 
   -- Kinds 1 to 4 are taken as soon as they are read.

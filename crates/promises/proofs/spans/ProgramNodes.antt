@@ -12,9 +12,8 @@ use Rattle.spans.specs.Codes.{good, failed, FS, SF, IDLE, none, listed, higher}
 use Rattle.spans.specs.Kept.{SpanFair}
 use Rattle.spans.specs.HoldOff.{HeldOff, LinkDecides}
 use Rattle.controller.specs.declared.reading.Reading.the-variants.{Tick, Link, Operator}
-use Rattle.controller.specs.declared.node.Started.{Started}
+use Rattle.controller.specs.Node.{Started, choiceOf, stateOf}
 use Rattle.controller.specs.State.{State, spanOf, started}
-use Rattle.controller.specs.Node.{choiceOf, stateOf}
 use Rattle.controller.specs.Kept.{StateKept}
 use Rattle.controller.specs.Promise.{Begun}
 use Rattle.promises.specs.History.{Call, after, Always, startOf, Made, callOf, callsOf, Met}

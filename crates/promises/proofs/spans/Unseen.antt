@@ -19,8 +19,9 @@ use Rattle.controller.specs.Handling.{cabled, acted, hearing, learning, judged}
 use Rattle.controller.specs.Closing.{settled, swept, isTick}
 use Rattle.controller.specs.Record.{Outcome, refusal, refuses, closed, outcomeOf}
 use Rattle.controller.proofs.Holding.{outcome-of-choice}
+use Rattle.controller.proofs.Packing.{settled-none}
 use Rattle.promises.specs.Spans.{Swept, askedOn, SameBeneath}
-use Rattle.promises.proofs.spans.OneRecord.{settled-same, spans-of}
+use Rattle.promises.proofs.spans.OneRecord.{spans-of}
 
 -- A side of the two: true is west. The span there, the spans with another in its place, and with no operator request on it.
 abbrev pub at : Bool → Spans → Span
@@ -191,7 +192,7 @@ asked-spans t request a x =
     sym (bare-settled t a x (put a (asked request (at a x)) x))
     ∙ ap (settled t x) (again a)
     ∙ bare-settled t a x x
-    ∙ ap (bare a) (settled-same t x)
+    ∙ ap (bare a) (settled-none t x)
   where
     again : (b : Bool) → bare b (put b (asked request (at b x)) x) ≡ bare b x
     again true = refl

@@ -19,9 +19,8 @@ use Rattle.ways.proofs.Opening.{way-open}
 use Rattle.controller.specs.Reading.{blockOf, reading}
 use Rattle.controller.specs.State.{Choice, State, started}
 use Rattle.controller.specs.Record.{outcome}
-use Rattle.controller.specs.declared.node.Started.{Started}
+use Rattle.controller.specs.Node.{Started, choiceOf, stateOf, westRequest, eastRequest, steered}
 use Rattle.controller.specs.Promise.{Begun}
-use Rattle.controller.specs.Node.{choiceOf, stateOf, westRequest, eastRequest, steered}
 use Rattle.promises.specs.History.{Call, after, AllBytes, startOf, Made, callsOf, nodeAfter, Met}
 use Rattle.promises.specs.Steering.{said, StandsAt, Clear}
 use Rattle.promises.proofs.demand2.AfterKept.{after-kept}

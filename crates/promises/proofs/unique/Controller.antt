@@ -1,8 +1,9 @@
 -- The public functions of controller leave no choice: one answer, and one content of lent memory. Assumes nothing.
 use Prim.Native.Nat.{ℕ}
-use mathlib.Core.Path.{refl, sym, _∙_}
+use mathlib.Core.Path.{refl, sym, ap, _∙_}
 use mathlib.Core.List.{List}
 use denote.Ref.{now}
+use Rattle.controller.specs.Node.{Started, Answer, returned}
 use Rattle.controller.proofs as controller
 use Rattle.promises.specs.Unique.{Fixes, FixesPart}
 
@@ -25,12 +26,30 @@ pub station-count-unique : Fixes controller.station_count.ended controller.stati
 station-count-unique = (λ w κs a x e. refl, λ κs a x y e f p q. p ∙ sym q)
 
 pub start-unique : Fixes controller.start.ended controller.start.Reads.ensures controller.start.Reads.Post
-start-unique = (λ w κs a x e. refl, λ κs a x y e f p q. p .is ∙ sym (q .is))
+start-unique = (λ w κs a x e. refl, λ κs a x y e f p q. ap (λ (s : Started). s .result) (p .is ∙ sym (q .is)))
+
+pub start-own-unique :
+    FixesPart controller.start.ended (λ κs. List ℕ) (λ κs x e. now (e .1 .0)) controller.start.Reads.ensures controller.start.Reads.Post
+start-own-unique = (λ w κs a x e. refl, λ κs a x y e f p q. ap (λ (s : Started). s .node .own) (p .is ∙ sym (q .is)))
+
+pub start-rows-unique :
+    FixesPart controller.start.ended (λ κs. List ℕ) (λ κs x e. now (e .1 .1 .0)) controller.start.Reads.ensures controller.start.Reads.Post
+start-rows-unique = (λ w κs a x e. refl, λ κs a x y e f p q. ap (λ (s : Started). s .node .rows) (p .is ∙ sym (q .is)))
 
 pub take-record-unique : Fixes controller.take_record.ended controller.take_record.Reads.ensures controller.take_record.Reads.Post
-take-record-unique = (λ w κs a x e. refl, λ κs a x y e f p q. p .is ∙ sym (q .is))
+take-record-unique = (λ w κs a x e. refl, λ κs a x y e f p q. ap (λ (r : Answer). returned (r .result) (r .wrote)) (p .is ∙ sym (q .is)))
+
+pub take-record-own-unique :
+    FixesPart controller.take_record.ended (λ κs. List ℕ) (λ κs x e. now (e .0))
+    controller.take_record.Reads.ensures controller.take_record.Reads.Post
+take-record-own-unique = (λ w κs a x e. refl, λ κs a x y e f p q. ap (λ (r : Answer). r .node .own) (p .is ∙ sym (q .is)))
+
+pub take-record-rows-unique :
+    FixesPart controller.take_record.ended (λ κs. List ℕ) (λ κs x e. now (e .1 .0))
+    controller.take_record.Reads.ensures controller.take_record.Reads.Post
+take-record-rows-unique = (λ w κs a x e. refl, λ κs a x y e f p q. ap (λ (r : Answer). r .node .rows) (p .is ∙ sym (q .is)))
 
 pub take-record-content-unique :
-    FixesPart controller.take_record.ended (λ κs. List ℕ) (λ κs x e. now (e .1 .1 .0))
+    FixesPart controller.take_record.ended (λ κs. List ℕ) (λ κs x e. now (e .1 .1 .1 .0))
     controller.take_record.Reads.ensures controller.take_record.Reads.Post
 take-record-content-unique = (λ w κs a x e. refl, λ κs a x y e f p q. p .content ∙ sym (q .content))

@@ -18,11 +18,10 @@ use Rattle.blocks.specs.Entries.{cut}
 use Rattle.blocks.specs.Meaning.{known, has, sound, behind, value}
 use Rattle.ways.specs.declared.choice.Reply.{Reply}
 use Rattle.ways.specs.Choice.{number}
-use Rattle.controller.specs.declared.node.Started.{Started}
+use Rattle.controller.specs.Node.{Started, stateOf, startedWith, wrote, steered, asked}
 use Rattle.controller.specs.declared.ask.Shown.{Shown}
 use Rattle.controller.specs.State.{State}
 use Rattle.controller.specs.Record.{Outcome, refusal}
-use Rattle.controller.specs.Node.{stateOf, startedWith, wrote, steered, asked}
 use Rattle.controller.specs.Promise.{Begun}
 use Rattle.promises.specs.History.{after, startOf, Made, nodeAfter}
 use Rattle.promises.specs.Examples.{tick, link, report, settings, station, P7, P10, P11, P12}

@@ -1,4 +1,4 @@
--- The run is that of the ring and of the record that the number picks. Assumes nothing.
+-- The run is that of the node and of the record that the number picks. Assumes nothing.
 use lib.ListN.{length-take}
 use native.Mathlib.Omega.{arith}
 use borrow.Author.Needs.{needs}
@@ -11,8 +11,8 @@ capped-requires c κs = search needs
 record-of-requires : tie.Need-record-of-requires
 record-of-requires c κs = search needs
 
-ring-requires : tie.Need-ring-requires
-ring-requires c κs = search needs
+ready-requires : tie.Need-ready-requires
+ready-requires c κs = search needs
 
 array-share-prefix-bytes : tie.Need-array-share-prefix-bytes
 array-share-prefix-bytes c = search needs
@@ -25,8 +25,9 @@ carry-requires c κs = search needs
 
 returns : tie.Need-returns
 returns c =
-    let picked = c .before .before .before .before in
-    rw (← picked .before .capped .ensures .0, ← picked .record-of .ensures .front, ← c .before .before .ring .ensures .same)
+    let readies = c .before .before .before .before in
+    let picks = readies .before .before .before .before in
+    rw (← picks .before .capped .ensures .0, ← picks .record-of .ensures .front, ← readies .ready .ensures .same)
     (c .carry .ensures)
 
 pub bench-record-spec : {M : Type 1} → statement M
@@ -35,7 +36,7 @@ bench-record-spec =
     (tie.spec
     capped-requires
     record-of-requires
-    ring-requires
+    ready-requires
     array-share-prefix-bytes
     slice-aggregate-carry
     carry-requires

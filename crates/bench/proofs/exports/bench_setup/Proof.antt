@@ -14,8 +14,9 @@ station-count-requires c κs = search needs
 
 returns : tie.Need-returns
 returns c =
-    let capped = c .before .before .capped in
-    rw (← capped .ensures .0, ← c .before .ring .ensures .same) (c .station-count .ensures)
+    let ring = c .before .before .before .ring in
+    let capped = c .before .before .before .before .capped in
+    rw (← capped .ensures .0, ← ring .ensures .same) (c .station-count .ensures)
 
 pub bench-setup-spec : {M : Type 1} → statement M
 bench-setup-spec =

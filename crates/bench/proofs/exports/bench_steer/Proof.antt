@@ -6,8 +6,8 @@ use Rattle.bench.proofs.exports.bench_steer.Tie as tie
 capped-requires : tie.Need-capped-requires
 capped-requires c κs = search needs
 
-standing-requires : tie.Need-standing-requires
-standing-requires c κs = search needs
+stand-requires : tie.Need-stand-requires
+stand-requires c κs = search needs
 
 addressee-requires : tie.Need-addressee-requires
 addressee-requires c κs = search needs
@@ -17,12 +17,12 @@ steer-all-requires c κs = search needs
 
 returns : tie.Need-returns
 returns c =
-    let capped = c .before .before .before .capped in
-    let standing = c .before .before .standing in
-    rw (← capped .ensures .0, ← standing .ensures .same, ← c .before .addressee .ensures)
+    let stands = c .before .before .before .before in
+    let capped = stands .before .before .before .capped in
+    rw (← capped .ensures .0, ← stands .stand .ensures .same, ← c .before .addressee .ensures)
     (c .steer-all .ensures)
 
 pub bench-steer-spec : {M : Type 1} → statement M
 bench-steer-spec =
     tie.close
-    (tie.spec capped-requires standing-requires addressee-requires steer-all-requires returns)
+    (tie.spec capped-requires stand-requires addressee-requires steer-all-requires returns)

@@ -40,6 +40,12 @@ brief-requires-3 c κs = search needs
 brief-requires-4 : tie.Need-brief-requires-4
 brief-requires-4 c κs = search needs
 
+brief-requires-5 : tie.Need-brief-requires-5
+brief-requires-5 c κs = search needs
+
+report-requires-4 : tie.Need-report-requires-4
+report-requires-4 c κs = search needs
+
 returns : tie.Need-returns
 unfolding recordOf
 returns c = rw (c .before .match .keys1) (holds _ (c .brief .ensures) refl (search needs))
@@ -77,16 +83,26 @@ returns-8 c = rw (c .before .match .keys8) (holds _ (c .brief4 .ensures) refl (s
 
 returns-9 : tie.Need-returns-9
 unfolding recordOf
-returns-9 c = let rest = c .match .rest in
+returns-9 c = rw (c .before .match .keys9) (holds _ (c .brief5 .ensures) refl (search needs))
+
+returns-10 : tie.Need-returns-10
+unfolding recordOf
+returns-10 c = rw (c .before .match .keys10) (c .report4 .ensures)
+
+returns-11 : tie.Need-returns-11
+unfolding recordOf
+returns-11 c = let rest = c .match .rest in
     rw (
-      ne-eqb _ 0 (rest .0 .0 .0 .0 .0 .0 .0 .1),
-      ne-eqb _ 1 (rest .0 .0 .0 .0 .0 .0 .1),
-      ne-eqb _ 2 (rest .0 .0 .0 .0 .0 .1),
-      ne-eqb _ 3 (rest .0 .0 .0 .0 .1),
-      ne-eqb _ 4 (rest .0 .0 .0 .1),
-      ne-eqb _ 5 (rest .0 .0 .1),
-      ne-eqb _ 6 (rest .0 .1),
-      ne-eqb _ 7 (rest .1),
+      ne-eqb _ 0 (rest .0 .0 .0 .0 .0 .0 .0 .0 .0 .1),
+      ne-eqb _ 1 (rest .0 .0 .0 .0 .0 .0 .0 .0 .1),
+      ne-eqb _ 2 (rest .0 .0 .0 .0 .0 .0 .0 .1),
+      ne-eqb _ 3 (rest .0 .0 .0 .0 .0 .0 .1),
+      ne-eqb _ 4 (rest .0 .0 .0 .0 .0 .1),
+      ne-eqb _ 5 (rest .0 .0 .0 .0 .1),
+      ne-eqb _ 6 (rest .0 .0 .0 .1),
+      ne-eqb _ 7 (rest .0 .0 .1),
+      ne-eqb _ 8 (rest .0 .1),
+      ne-eqb _ 9 (rest .1),
     )
     (record { front = refl; within = search needs })
 
@@ -105,6 +121,8 @@ record-of-spec =
     attributes-requires
     brief-requires-3
     brief-requires-4
+    brief-requires-5
+    report-requires-4
     returns
     returns-2
     returns-3
@@ -113,4 +131,6 @@ record-of-spec =
     returns-6
     returns-7
     returns-8
-    returns-9)
+    returns-9
+    returns-10
+    returns-11)

@@ -3,12 +3,14 @@ use mathlib.Core.Path.{ap}
 use lib.ListN.{length-take}
 use native.Mathlib.Omega.{arith}
 use borrow.Author.Needs.{needs}
-use Rattle.controller.specs.declared.record.Answer.{Answer}
+use Rattle.controller.specs.Node.{Answer}
 use Rattle.bench.proofs.ring.after.Statement.{statement}
 use Rattle.bench.proofs.ring.after.Tie as tie
 
 array-share-prefix-bytes : tie.Need-array-share-prefix-bytes
-array-share-prefix-bytes c = c .before .pre .1
+array-share-prefix-bytes c =
+    let entry = c .before .before .before in
+    entry .pre .1
 
 slice-aggregate-take : tie.Need-slice-aggregate-take
 slice-aggregate-take c = simp length-take (omega arith)
@@ -17,7 +19,7 @@ take-requires : tie.Need-take-requires
 take-requires c κs = search needs
 
 returns : tie.Need-returns
-returns c = record { same = ap (λ (a : Answer). a .node) (c .before .take .ensures .is); kept = c .before .take .ensures .kept }
+returns c = record { same = ap (λ (a : Answer). a .node) (c .take .ensures .is); kept = c .take .ensures .kept }
 
 pub after-spec : {M : Type 1} → statement M
 after-spec =

@@ -1,16 +1,18 @@
 -- What the calls left will add, from the node as it is, is what the sum lacks. Assumes nothing.
 use borrow.Author.Needs.{needs}
 use Rattle.controller.specs.Kept.{Kept}
+use Rattle.controller.specs.Node.{node}
 use Rattle.bench.specs.Runs.{carried}
 use Rattle.bench.proofs.Turns.{Run, turn, done, carried-turn, carried-done}
 use Rattle.bench.proofs.runs.carry.Statement.{statement}
 use Rattle.bench.proofs.runs.carry.Tie as tie
 
 abbrev Inv-loop : tie.InvT-loop
-Inv-loop bytes calls n₀ left₀ sum₀ n left sum = Kept n × Run (carried bytes left₀ n₀) left₀ left sum (carried bytes left n)
+Inv-loop own₀ rows₀ bytes calls left₀ sum₀ own rows left sum =
+    Kept (node own rows) × Run (carried bytes left₀ (node own₀ rows₀)) left₀ left sum (carried bytes left (node own rows))
 
 abbrev μ-loop : tie.MeasureT-loop
-μ-loop bytes calls n₀ left₀ sum₀ n left sum = left
+μ-loop own₀ rows₀ bytes calls left₀ sum₀ own rows left sum = left
 
 loop-holds : tie.Need-loop-holds Inv-loop μ-loop
 loop-holds c = search needs
@@ -32,9 +34,9 @@ loop-less c = search needs
 
 loop-again : tie.Need-loop-again Inv-loop μ-loop
 loop-again c =
-    let told = c .before .told .ensures in
-    let took = c .before .before .take .ensures in
-    let test = c .before .before .before in (
+    let told = c .told .ensures in
+    let took = c .before .take .ensures in
+    let test = c .before .before .before .before in (
       took .kept,
       turn (test .before .loop .inv .1) (test .loop-test .taken) (carried-turn _ _ _ (test .loop-test .taken) (took .is) (told .0)) (told .1),
     )

@@ -1,17 +1,18 @@
 -- Every question has the same answer, and what the calls left will add is what the sum lacks. Assumes nothing.
 use Prim.Native.Nat.{_*_}
 use borrow.Author.Needs.{needs}
-use Rattle.controller.specs.Node.{stateOf, asked}
+use Rattle.controller.specs.Node.{node, stateOf, asked}
 use Rattle.bench.specs.Runs.{weighed}
 use Rattle.bench.proofs.Turns.{Run, same-turn, same-done}
 use Rattle.bench.proofs.runs.show_all.Statement.{statement}
 use Rattle.bench.proofs.runs.show_all.Tie as tie
 
 abbrev Inv-loop : tie.InvT-loop
-Inv-loop n address calls left₀ sum₀ left sum = Run (left₀ * weighed (asked (stateOf n) address)) left₀ left sum (left * weighed (asked (stateOf n) address))
+Inv-loop own rows address calls left₀ sum₀ left sum =
+    Run (left₀ * weighed (asked (stateOf (node own rows)) address)) left₀ left sum (left * weighed (asked (stateOf (node own rows)) address))
 
 abbrev μ-loop : tie.MeasureT-loop
-μ-loop n address calls left₀ sum₀ left sum = left
+μ-loop own rows address calls left₀ sum₀ left sum = left
 
 loop-holds : tie.Need-loop-holds Inv-loop μ-loop
 loop-holds c = search needs

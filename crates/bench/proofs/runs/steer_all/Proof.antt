@@ -2,16 +2,17 @@
 use Prim.Native.Nat.{_*_}
 use borrow.Author.Needs.{needs}
 use Rattle.ways.specs.Choice.{number}
-use Rattle.controller.specs.Node.{stateOf, steered}
+use Rattle.controller.specs.Node.{node, stateOf, steered}
 use Rattle.bench.proofs.Turns.{Run, same-turn, same-done}
 use Rattle.bench.proofs.runs.steer_all.Statement.{statement}
 use Rattle.bench.proofs.runs.steer_all.Tie as tie
 
 abbrev Inv-loop : tie.InvT-loop
-Inv-loop n address calls left₀ sum₀ left sum = Run (left₀ * number (steered (stateOf n) address)) left₀ left sum (left * number (steered (stateOf n) address))
+Inv-loop own rows address calls left₀ sum₀ left sum =
+    Run (left₀ * number (steered (stateOf (node own rows)) address)) left₀ left sum (left * number (steered (stateOf (node own rows)) address))
 
 abbrev μ-loop : tie.MeasureT-loop
-μ-loop n address calls left₀ sum₀ left sum = left
+μ-loop own rows address calls left₀ sum₀ left sum = left
 
 loop-holds : tie.Need-loop-holds Inv-loop μ-loop
 loop-holds c = search needs

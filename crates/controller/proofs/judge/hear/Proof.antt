@@ -1,26 +1,28 @@
 -- (b), (c), and then the table's own steps. Assumes nothing.
 use borrow.Author.Tests.{eq-eqb, ne-eqb}
+use Rattle.stations.proofs.Telling.{tell-same}
 use Rattle.controller.specs.Handling.{hearing}
 use borrow.Author.Needs.{needs}
 use Rattle.controller.proofs.judge.hear.Statement.{statement}
 use Rattle.controller.proofs.judge.hear.Tie as tie
 
-span-of-requires : tie.Need-span-of-requires
-span-of-requires c κs = search needs
+span-in-requires : tie.Need-span-in-requires
+span-in-requires c κs = search needs
+
+ticks-in-requires : tie.Need-ticks-in-requires
+ticks-in-requires c κs = search needs
 
 down-requires : tie.Need-down-requires
 down-requires c κs = search needs
 
-same-requires : tie.Need-same-requires
-same-requires c κs = search needs
-
 returns : tie.Need-returns
 unfolding hearing
 returns c =
+    let entry = c .before .before .before .before .before .before in
     let if1 = c .before .before .before .before .if1 in
-    let span-of = c .before .before .before .span-of in
-    let down = c .before .before .down in
-    rw ((c .same .ensures), eq-eqb _ _ (if1 .taken), ← (span-of .ensures), ← (down .ensures), (c .before .if2 .taken))
+    let span-in = c .before .before .before .span-in in
+    let ticks-in = c .before .before .ticks-in in
+    rw (eq-eqb _ _ (if1 .taken), ← (ticks-in .ensures), ← (span-in .ensures), ← (c .before .down .ensures), (c .if2 .taken)) (tell-same (entry .pre) 21)
 
 hear-report-requires : tie.Need-hear-report-requires
 hear-report-requires c κs = search needs
@@ -28,27 +30,27 @@ hear-report-requires c κs = search needs
 returns-2 : tie.Need-returns-2
 unfolding hearing
 returns-2 c =
-    let if1 = c .before .before .before .before .if1 in
-    let span-of = c .before .before .before .span-of in
-    let down = c .before .before .down in
-    rw ((c .hear-report .ensures), eq-eqb _ _ (if1 .taken), ← (span-of .ensures), ← (down .ensures), (c .before .if2 .left))
-
-same-requires-2 : tie.Need-same-requires-2
-same-requires-2 c κs = search needs
+    let if1 = c .before .before .before .before .before .before .if1 in
+    let span-in = c .before .before .before .before .before .span-in in
+    let ticks-in = c .before .before .before .before .ticks-in in
+    let down = c .before .before .before .down in
+    let if2 = c .before .before .if2 in
+    rw ((c .hear-report .ensures), eq-eqb _ _ (if1 .taken), ← (ticks-in .ensures), ← (span-in .ensures), ← (down .ensures), (if2 .left))
 
 returns-3 : tie.Need-returns-3
 unfolding hearing
-returns-3 c = rw ((c .same2 .ensures), ne-eqb _ _ (c .before .if1 .left))
+returns-3 c =
+    let entry = c .before .before in
+    rw (ne-eqb _ _ (c .if1 .left)) (tell-same (entry .pre) 20)
 
 pub hear-spec : {M : Type 1} → statement M
 hear-spec =
     tie.close
     (tie.spec
-    span-of-requires
+    span-in-requires
+    ticks-in-requires
     down-requires
-    same-requires
     returns
     hear-report-requires
     returns-2
-    same-requires-2
     returns-3)

@@ -2,7 +2,8 @@
 use mathlib.Core.Path.{sym, _∙_, ap}
 use Rattle.blocks.specs.Types.{knows}
 use Rattle.blocks.specs.Meaning.{meaning, blockAt}
-use Rattle.stations.specs.Table.{live, hearingOf}
+use Rattle.stations.specs.Rows.{stationsIn, leftBy}
+use Rattle.stations.proofs.Telling.{tell-same}
 use Rattle.controller.proofs.Judging.{taking-malformed, taking-aside, taking-values}
 use borrow.Author.Needs.{needs}
 use Rattle.controller.proofs.judge.read_in.Statement.{statement}
@@ -13,9 +14,6 @@ read-block-requires c κs = search needs
 
 enum-told : tie.Need-enum-told
 enum-told c = search needs
-
-same-requires : tie.Need-same-requires
-same-requires c κs = search needs
 
 enum-known-read : tie.Need-enum-known-read
 enum-known-read c = search needs
@@ -35,32 +33,31 @@ give-requires-2 c κs = search needs
 returns : tie.Need-returns
 unfolding blockAt
 returns c =
-    let entry = c .before .before .before .before .before in
-    let read-block = c .before .before .before .read-block in
+    let entry = c .before .before .before .before in
+    let read-block = c .before .before .read-block in
     let a = entry .args in
-    (c .same .ensures) ∙ ap hearingOf (sym (taking-malformed (a .address) (live (a .table)) (meaning (knows (a .level)) (a .block .now))
-    (sym (read-block .ensures) ∙ (c .before .enum-told .given .1))))
+    tell-same (entry .pre .0) 8 ∙ ap leftBy (sym (taking-malformed (a .address) (stationsIn (a .rows .now)) (meaning (knows (a .level)) (a .block .now))
+    (sym (read-block .ensures) ∙ (c .enum-told .given .1))))
 
 returns-2 : tie.Need-returns-2
 unfolding blockAt
 returns-2 c =
-    let entry = c .before .before .before .before .before .before .before in
-    let read-block = c .before .before .before .before .before .read-block in
-    let read = c .before .before .before .read in
+    let entry = c .before .before .before .before .before .before .before .before in
+    let read-block = c .before .before .before .before .before .before .read-block in
+    let read = c .before .before .before .before .read in
     let a = entry .args in
-    (c .give .ensures) ∙ rw (c .before .behind-with .ensures) (ap hearingOf
-    (sym (taking-aside (a .address) (live (a .table)) (meaning (knows (a .level)) (a .block .now)) _ (sym (read-block .ensures) ∙ (read .given .1)))))
+    (c .give .ensures) ∙ rw (c .before .behind-with .ensures) (ap leftBy
+    (sym (taking-aside (a .address) (stationsIn (a .rows .now)) (meaning (knows (a .level)) (a .block .now)) _ (sym (read-block .ensures) ∙ (read .given .1)))))
 
 returns-3 : tie.Need-returns-3
 unfolding blockAt
 returns-3 c =
-    let entry = c .before .before .before .before .before .before in
-    let read-block = c .before .before .before .before .read-block in
-    let read2 = c .before .before .read2 in
+    let entry = c .before .before .before .before .before .before .before in
+    let read-block = c .before .before .before .before .before .read-block in
+    let read2 = c .before .before .before .read2 in
     let a = entry .args in
-    (c .give2 .ensures) ∙ ap hearingOf (sym
-    (taking-values (a .address) (live (a .table)) (meaning (knows (a .level)) (a .block .now)) _ _ _ _
-    (sym (read-block .ensures) ∙ (read2 .given .1))))
+    (c .give2 .ensures) ∙ ap leftBy (sym
+    (taking-values (a .address) (stationsIn (a .rows .now)) (meaning (knows (a .level)) (a .block .now)) _ _ _ _ (sym (read-block .ensures) ∙ (read2 .given .1))))
 
 pub read-in-spec : {M : Type 1} → statement M
 read-in-spec =
@@ -68,7 +65,6 @@ read-in-spec =
     (tie.spec
     read-block-requires
     enum-told
-    same-requires
     enum-known-read
     behind-with-requires
     give-requires

@@ -1,58 +1,21 @@
--- Each step is known by its equation; a law puts them together: passed by, refused, or taken and closed. Assumes nothing.
+-- Each step reads the words that the one before it left. Assumes nothing.
 use mathlib.Core.Path.{sym, _∙_}
-use Rattle.controller.proofs.Records.{forget-fits, judged-table, refused, taken, passed}
+use Rattle.controller.proofs.Nodes.{kept-own, kept-rows}
+use Rattle.controller.proofs.Records.{own-held, forget-fits, refused, rows-kept, taken}
 use borrow.Author.Needs.{needs}
 use Rattle.controller.proofs.record.take_reading.Statement.{statement}
 use Rattle.controller.proofs.record.take_reading.Tie as tie
 
-ticks-requires : tie.Need-ticks-requires
-ticks-requires c κs = search needs
-
 act-requires : tie.Need-act-requires
-act-requires c κs = search needs
-
-settle-requires : tie.Need-settle-requires
-settle-requires c κs = search needs
-
-is-tick-requires : tie.Need-is-tick-requires
-is-tick-requires c κs = search needs
-
-report-requests-requires : tie.Need-report-requests-requires
-report-requests-requires c κs = search needs
-
-passes-requires : tie.Need-passes-requires
-passes-requires c κs = search needs
-
-send-requires : tie.Need-send-requires
-send-requires c κs = search needs
-
-same-length : tie.Need-same-length
-same-length c = search needs
-
-returns : tie.Need-returns
-returns c =
-    let entry = c .before .before .before .before .before .before .before .before .before .before .before .before .before .before .before in
-    let ticks = c .before .before .before .before .before .before .before .before .before .before .before .ticks in
-    let act = c .before .before .before .before .before .before .before .before .before .before .act in
-    let settle = c .before .before .before .before .before .before .before .before .before .settle in
-    let is-tick = c .before .before .before .before .before .before .before .before .is-tick in
-    let reported = c .before .before .before .before .before .before .before .report-requests in
-    let passes = c .before .before .before .before .before .passes in
-    let if1 = c .before .before .before .before .if1 in
-    let send = c .before .before .send in
-    passed (entry .args .n) (entry .pre .0) (entry .args .r) (entry .args .block .now) (ticks .ensures) (act .ensures) (settle .ensures)
-    (is-tick .ensures) (reported .ensures) (sym (passes .ensures) ∙ (if1 .taken)) (entry .args .out .now) _ (send .ensures)
+act-requires c κs =
+    let entry = c .before .before .before in
+    kept-own (entry .pre .0)
 
 judge-requires : tie.Need-judge-requires
 judge-requires c κs =
-    let entry = c .before .before .before .before .before .before .before .before .before .before .before in
-    let ticks = c .before .before .before .before .before .before .before .ticks in
-    let act = c .before .before .before .before .before .before .act in (
-      (entry .pre .0) .table,
-      rw (act .ensures) (ticks .ensures),
-      forget-fits (entry .args .n) (entry .pre .0) (entry .args .r) (entry .args .block .now)
-          (ticks .ensures),
-    )
+    let entry = c .before .before .before .before .before .before in
+    let act = c .before .before .act in
+    (kept-rows (entry .pre .0), forget-fits (entry .pre .0) (entry .args .r) (entry .args .block .now) (act .ensures))
 
 is-refusal-requires : tie.Need-is-refusal-requires
 is-refusal-requires c κs = search needs
@@ -60,66 +23,61 @@ is-refusal-requires c κs = search needs
 refuse-requires : tie.Need-refuse-requires
 refuse-requires c κs = search needs
 
-returns-2 : tie.Need-returns-2
-returns-2 c =
-    let entry = c .before .before .before .before .before .before .before .before .before .before .before .before .before .before .before in
-    let ticks = c .before .before .before .before .before .before .before .before .before .before .before .ticks in
-    let act = c .before .before .before .before .before .before .before .before .before .before .act in
+returns : tie.Need-returns
+returns c =
+    let entry = c .before .before .before .before .before .before .before .before .before .before in
+    let act = c .before .before .before .before .before .before .act in
     let judge = c .before .before .before .judge in
     let is-refusal = c .before .before .is-refusal in
-    rw (c .refuse .ensures) (refused (entry .args .n) (entry .pre .0) (entry .args .r) (entry .args .block .now) (ticks .ensures) (act .ensures)
-    (judge .ensures) (sym (is-refusal .ensures) ∙ (c .before .if2 .taken)) (entry .args .out .now))
+    rw (c .refuse .ensures) (refused (entry .pre .0) (entry .args .r) (entry .args .block .now)
+    (act .ensures) (judge .ensures) (sym (is-refusal .ensures) ∙ (c .before .if1 .taken)) (entry .args .out .now))
 
-send-requires-2 : tie.Need-send-requires-2
-send-requires-2 c κs = search needs
+is-tick-requires : tie.Need-is-tick-requires
+is-tick-requires c κs = search needs
+
+report-requests-requires : tie.Need-report-requests-requires
+report-requests-requires c κs =
+    let entry = c .before .before .before .before .before .before .before .before .before .before .before .before in
+    let act = c .before .before .before .before .before .before .before .before .act in
+    own-held (entry .pre .0) (entry .args .r) (entry .args .block .now) (act .ensures)
 
 sweep-requires : tie.Need-sweep-requires
 sweep-requires c κs =
-    let entry = c .before .before .before .before .before .before .before .before .before .before .before .before .before .before .before .before .before .before in
-    let shared-slice-known = c .before .before .before .before .before .before .before .before .before .before .before .before .before .before .before .before .before .shared-slice-known in
-    let ticks = c .before .before .before .before .before .before .before .before .before .before .before .before .before .before .ticks in
+    let entry = c .before .before .before .before .before .before .before .before .before .before .before .before .before .before .before .before .before in
+    let shared-slice-known = c .before .before .before .before .before .before .before .before .before .before .before .before .before .before .before .before .shared-slice-known in
     let act = c .before .before .before .before .before .before .before .before .before .before .before .before .before .act in
-    let judge = c .before .before .before .before .before .before .judge in
-    judged-table (entry .args .n) (entry .pre .0) (entry .args .r) (entry .args .block .now) (ticks .ensures) (act .ensures) (judge .ensures)
+    let judge = c .before .before .before .before .before .before .before .before .before .before .judge in
+    rows-kept (entry .pre .0) (entry .args .r) (entry .args .block .now) (act .ensures) (judge .ensures)
     (entry .pre .1) (λ i. (shared-slice-known .given) i .fits)
 
-same-length-2 : tie.Need-same-length-2
-same-length-2 c = search needs
+same-length : tie.Need-same-length
+same-length c = search needs
 
-returns-3 : tie.Need-returns-3
-returns-3 c =
-    let entry = c .before .before .before .before .before .before .before .before .before .before .before .before .before .before .before .before .before .before .before in
-    let ticks = c .before .before .before .before .before .before .before .before .before .before .before .before .before .before .before .ticks in
+returns-2 : tie.Need-returns-2
+returns-2 c =
+    let entry = c .before .before .before .before .before .before .before .before .before .before .before .before .before .before .before .before .before .before in
+    let shared-slice-known = c .before .before .before .before .before .before .before .before .before .before .before .before .before .before .before .before .before .shared-slice-known in
     let act = c .before .before .before .before .before .before .before .before .before .before .before .before .before .before .act in
-    let settle = c .before .before .before .before .before .before .before .before .before .before .before .before .before .settle in
-    let is-tick = c .before .before .before .before .before .before .before .before .before .before .before .before .is-tick in
-    let reported = c .before .before .before .before .before .before .before .before .before .before .before .report-requests in
-    let judge = c .before .before .before .before .before .before .before .judge in
-    let is-refusal = c .before .before .before .before .before .before .is-refusal in
-    let if2 = c .before .before .before .before .before .if2 in
-    let send2 = c .before .before .before .send2 in
-    taken (entry .args .n) (entry .pre .0) (entry .args .r) (entry .args .block .now) (ticks .ensures) (act .ensures) (settle .ensures)
-    (is-tick .ensures) (reported .ensures) (judge .ensures) (sym (is-refusal .ensures) ∙ (if2 .left)) (c .sweep .ensures) (entry .args .out .now) _
-    (send2 .ensures)
+    let judge = c .before .before .before .before .before .before .before .before .before .before .before .judge in
+    let is-refusal = c .before .before .before .before .before .before .before .before .before .before .is-refusal in
+    let if1 = c .before .before .before .before .before .before .before .before .before .if1 in
+    let is-tick = c .before .before .before .before .before .before .before .is-tick in
+    let report-requests = c .before .before .before .before .before .report-requests in
+    taken (entry .pre .0) (entry .args .r) (entry .args .block .now) (act .ensures) (judge .ensures)
+    (entry .pre .1) (λ i. (shared-slice-known .given) i .fits) (is-tick .ensures) (report-requests .ensures) (sym (is-refusal .ensures) ∙ (if1 .left))
+    (c .sweep .ensures)
 
 pub take-reading-spec : {M : Type 1} → statement M
 take-reading-spec =
     tie.close
     (tie.spec
-    ticks-requires
     act-requires
-    settle-requires
-    is-tick-requires
-    report-requests-requires
-    passes-requires
-    send-requires
-    same-length
-    returns
     judge-requires
     is-refusal-requires
     refuse-requires
-    returns-2
-    send-requires-2
+    returns
+    is-tick-requires
+    report-requests-requires
     sweep-requires
-    same-length-2
-    returns-3)
+    same-length
+    returns-2)

@@ -1,6 +1,9 @@
--- Without room 1; else the record read, and its block. Assumes nothing.
+-- Without room 1; then the refusals of reading; else the record read, and its block. Assumes nothing.
+use Prim.Native.Nat.{ℕ}
+use mathlib.Core.Path.{_∙_, ap}
+use Rattle.controller.specs.Reading.{readIn}
 use Rattle.controller.proofs.ReadKept.{read-in-kept}
-use Rattle.controller.proofs.Records.{no-room, recorded}
+use Rattle.controller.proofs.Records.{no-room, early, recorded}
 use borrow.Author.Needs.{needs}
 use Rattle.controller.proofs.record.take_record.Statement.{statement}
 use Rattle.controller.proofs.record.take_record.Tie as tie
@@ -11,34 +14,61 @@ refuse-requires c κs = search needs
 returns : tie.Need-returns
 returns c =
     let entry = c .before .before .before .before in
-    rw (c .refuse .ensures) (no-room (entry .args .n) (entry .pre) (entry .args .bytes .now) (entry .args .out .now) (c .before .if1 .taken))
+    let shared-slice-known = c .before .before .before .shared-slice-known in
+    rw (c .refuse .ensures) (no-room _ (entry .pre) (entry .args .bytes .now) (entry .args .out .now) (λ i. (shared-slice-known .given) i .fits)
+    (c .before .if1 .taken))
+
+address-in-requires : tie.Need-address-in-requires
+address-in-requires c κs = search needs
 
 read-record-requires : tie.Need-read-record-requires
 read-record-requires c κs = search needs
+
+enum-known-r : tie.Need-enum-known-r
+enum-known-r c = search needs
+
+refuse-requires-2 : tie.Need-refuse-requires-2
+refuse-requires-2 c κs = search needs
 
 block-of-requires : tie.Need-block-of-requires
 block-of-requires c κs = search needs
 
 take-reading-requires : tie.Need-take-reading-requires
 take-reading-requires c κs =
-    let entry = c .before .before .before .before .before .before .before in
-    let shared-slice-known = c .before .before .before .before .before .before .shared-slice-known in
-    let read-record = c .before .before .read-record in
-    ((entry .pre), rw (read-record .ensures) (read-in-kept _ (entry .args .bytes .now) (λ i. (shared-slice-known .given) i .fits)))
-
-same-length : tie.Need-same-length
-same-length c = search needs
+    let entry = c .before .before .before .before .before .before .before .before .before .before .before in
+    let shared-slice-known = c .before .before .before .before .before .before .before .before .before .before .shared-slice-known in
+    let address-in = c .before .before .before .before .before .before .address-in in
+    let read-record = c .before .before .before .before .before .read-record in (
+      (entry .pre),
+      rw ((read-record .ensures), (address-in .ensures))
+          (read-in-kept _ (entry .args .bytes .now) (λ i. (shared-slice-known .given) i .fits)),
+    )
 
 returns-2 : tie.Need-returns-2
 returns-2 c =
     let entry = c .before .before .before .before .before .before .before .before .before .before in
     let shared-slice-known = c .before .before .before .before .before .before .before .before .before .shared-slice-known in
     let if1 = c .before .before .before .before .before .before .before .if1 in
-    let read-record = c .before .before .before .before .before .read-record in
+    let address-in = c .before .before .before .before .before .address-in in
+    let read-record = c .before .before .before .before .read-record in
+    let r = c .before .before .r in
+    rw (c .refuse2 .ensures) (early _ (entry .pre) (entry .args .bytes .now) (entry .args .out .now) (λ i. (shared-slice-known .given) i .fits) _
+    (if1 .left) ((read-record .ensures) ∙ ap (λ (a : ℕ). readIn a (entry .args .bytes .now)) (address-in .ensures)) (r .given .1))
+
+same-length : tie.Need-same-length
+same-length c = search needs
+
+returns-3 : tie.Need-returns-3
+returns-3 c =
+    let entry = c .before .before .before .before .before .before .before .before .before .before .before .before .before .before in
+    let shared-slice-known = c .before .before .before .before .before .before .before .before .before .before .before .before .before .shared-slice-known in
+    let if1 = c .before .before .before .before .before .before .before .before .before .before .before .if1 in
+    let address-in = c .before .before .before .before .before .before .before .before .before .address-in in
+    let read-record = c .before .before .before .before .before .before .before .before .read-record in
     let block-of = c .before .before .before .before .block-of in
     let take-reading = c .before .before .take-reading in
-    recorded (entry .args .n) (entry .pre) (entry .args .bytes .now) (entry .args .out .now) _ _ _ _ (λ i. (shared-slice-known .given) i .fits)
-    (if1 .left) (read-record .ensures) (block-of .ensures) (take-reading .ensures)
+    recorded _ (entry .pre) (entry .args .bytes .now) (entry .args .out .now) (λ i. (shared-slice-known .given) i .fits) _ (if1 .left)
+    ((read-record .ensures) ∙ ap (λ (a : ℕ). readIn a (entry .args .bytes .now)) (address-in .ensures)) (block-of .ensures) (take-reading .ensures)
 
 pub take-record-spec : {M : Type 1} → statement M
 take-record-spec =
@@ -46,8 +76,12 @@ take-record-spec =
     (tie.spec
     refuse-requires
     returns
+    address-in-requires
     read-record-requires
+    enum-known-r
+    refuse-requires-2
     block-of-requires
     take-reading-requires
+    returns-2
     same-length
-    returns-2)
+    returns-3)

@@ -2,7 +2,7 @@
 use mathlib.Core.Path.{ap, _∙_, sym}
 use Rattle.wire.specs.Fields.{oddFirst}
 use Rattle.ways.specs.Choice.{number}
-use Rattle.controller.specs.Node.{stateOf}
+use Rattle.controller.specs.Node.{node, stateOf}
 use Rattle.drill.proofs.Questions.{wrong-length, odd-address, way-line}
 use borrow.Author.Needs.{needs}
 use Rattle.drill.proofs.line.put_question.Statement.{statement}
@@ -15,7 +15,8 @@ returns : tie.Need-returns
 returns c =
     let entry = c .before .before .before .before in
     let if1 = c .before .before .if1 in
-    rw (wrong-length (entry .args .number) (stateOf (entry .args .n)) (entry .args .body .now) (if1 .taken)) (c .put-refused .ensures)
+    let s = stateOf (node (entry .args .own .now) (entry .args .rows .now)) in
+    rw (wrong-length (entry .args .number) s (entry .args .body .now) (if1 .taken)) (c .put-refused .ensures)
 
 address-at-requires : tie.Need-address-at-requires
 address-at-requires c κs = search needs
@@ -32,7 +33,8 @@ returns-2 c =
     let address-at = c .before .before .before .before .address-at in
     let odd-first = c .before .before .before .odd-first in
     let if2 = c .before .before .if2 in
-    rw (odd-address (entry .args .number) (stateOf (entry .args .n)) (entry .args .body .now)
+    let s = stateOf (node (entry .args .own .now) (entry .args .rows .now)) in
+    rw (odd-address (entry .args .number) s (entry .args .body .now)
     (ap oddFirst (sym (address-at .ensures)) ∙ sym (odd-first .ensures) ∙ if2 .taken)) (c .put-refused2 .ensures)
 
 steer-requires : tie.Need-steer-requires
@@ -53,8 +55,9 @@ returns-3 c =
     let if2 = c .before .before .before .before .if2 in
     let steer = c .before .before .steer in
     let number = c .before .number in
+    let s = stateOf (node (entry .args .own .now) (entry .args .rows .now)) in
     rw (
-      way-line (entry .args .number) (stateOf (entry .args .n)) (entry .args .body .now) (if1 .left)
+      way-line (entry .args .number) s (entry .args .body .now) (if1 .left)
           (ap oddFirst (sym (address-at .ensures)) ∙ sym (odd-first .ensures) ∙ if2 .left),
       ← address-at .ensures,
       ← steer .ensures,

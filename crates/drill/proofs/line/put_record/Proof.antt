@@ -1,4 +1,5 @@
 -- Seven numbers, one behind the other: at most 147 bytes. Assumes nothing.
+use Rattle.controller.specs.Node.{answerIn}
 use Rattle.drill.proofs.Records.{record-lined}
 use borrow.Author.Needs.{needs}
 use Rattle.drill.proofs.line.put_record.Statement.{statement}
@@ -45,7 +46,7 @@ put-number-requires-5 c κs = search needs
 
 returns : tie.Need-returns
 returns c =
-    let entry = c .before .before .before .before .before .before .before .before .before .before .before .before .before .before .before .before .before .before .before in
+    let entry = c .before .before .before .before .before .before .before .before .before .before .before .before .before .before .before .before .before .before in
     let west-request = c .before .before .before .before .before .before .before .before .before .before .before .before .before .before .before .before .before .west-request in
     let east-request = c .before .before .before .before .before .before .before .before .before .before .before .before .before .before .before .before .east-request in
     let put-number = c .before .before .before .before .before .before .before .before .before .before .before .before .before .before .put-number in
@@ -55,7 +56,8 @@ returns c =
     let put-number3 = c .before .before .before .before .before .before .put-number3 in
     let station-count = c .before .before .before .before .station-count in
     let put-number4 = c .before .before .before .put-number4 in
-    record-lined (entry .args .number) (entry .args .a) _ _ _ _ _ (west-request .ensures) (east-request .ensures) (own-sequence .ensures)
+    let a = answerIn (entry .args .own .now) (entry .args .rows .now) (entry .args .a) in
+    record-lined (entry .args .number) a _ _ _ _ _ (west-request .ensures) (east-request .ensures) (own-sequence .ensures)
     (station-count .ensures) (c .before .written .ensures)
     (put-number .ensures) (put-number2 .ensures) (put-requests .ensures) (put-number3 .ensures) (put-number4 .ensures) (c .put-number5 .ensures)
 

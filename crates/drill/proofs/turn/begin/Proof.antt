@@ -1,6 +1,5 @@
 -- Each arm is a case of what was read. Assumes nothing.
-use Rattle.drill.proofs.Stepping.{front-length}
-use Rattle.drill.proofs.Stepping.{nothing-start, cut-start, whole-start}
+use Rattle.drill.proofs.Stepping.{front-length, nothing-start, cut-start, whole-start}
 use borrow.Author.Needs.{needs}
 use Rattle.drill.proofs.turn.begin.Statement.{statement}
 use Rattle.drill.proofs.turn.begin.Tie as tie
@@ -46,24 +45,24 @@ tell-start-requires-3 c κs = search needs
 
 returns : tie.Need-returns
 returns c =
-    let entry = c .before .before .before .before .before .before .before in
-    let enum-told = c .before .before .before .before .enum-told in
+    let entry = c .before .before .before .before .before .before .before .before .before in
+    let enum-told = c .before .before .before .before .before .before .enum-told in
     let start = c .before .before .start in
-    nothing-start (entry .args .buf .now) (enum-told .given .1) (start .ensures .is) (c .tell-start .ensures)
+    nothing-start (entry .args .buf .now) (enum-told .given .1) (start .ensures) (c .tell-start .ensures)
 
 returns-2 : tie.Need-returns-2
 returns-2 c =
-    let entry = c .before .before .before .before .before .before .before in
-    let enum-told2 = c .before .before .before .before .enum-told2 in
+    let entry = c .before .before .before .before .before .before .before .before .before in
+    let enum-told2 = c .before .before .before .before .before .before .enum-told2 in
     let start2 = c .before .before .start2 in
-    cut-start (entry .args .buf .now) (enum-told2 .given .1) (start2 .ensures .is) (c .tell-start2 .ensures)
+    cut-start (entry .args .buf .now) (enum-told2 .given .1) (start2 .ensures) (c .tell-start2 .ensures)
 
 returns-3 : tie.Need-returns-3
 returns-3 c =
-    let entry = c .before .before .before .before .before .before .before .before in
-    let read = c .before .before .before .before .before .read in
+    let entry = c .before .before .before .before .before .before .before .before .before .before in
+    let read = c .before .before .before .before .before .before .before .read in
     let start3 = c .before .before .start3 in
-    whole-start (entry .args .buf .now) _ (read .given .1) (start3 .ensures .is) (c .tell-start3 .ensures)
+    whole-start (entry .args .buf .now) _ (read .given .1) (start3 .ensures) (c .tell-start3 .ensures)
 
 pub begin-spec : {M : Type 1} → statement M
 begin-spec =

@@ -1,30 +1,36 @@
--- Below the middle or not: the halves of an ascending list close in on the rank. Assumes nothing.
-use borrow.Author.Needs.{needs}
-use Rattle.stations.proofs.Ranks.{half-left, half-right, rank-in}
-use Rattle.stations.specs.Table.{live}
+-- The rank stays between the two ends, which close in by halves. Assumes nothing.
+use Rattle.stations.proofs.Reading.{count-few, row-left, row-right, row-rank}
+use Rattle.stations.specs.Rows.{stationsIn}
 use Rattle.stations.specs.Steps.{rankOf}
 use native.Mathlib.Omega.{arith}
+use lib.ListN.{getD}
 use Prim.Native.Nat.{_≤_, _-_, _+_, _/_}
+use borrow.Author.Needs.{needs}
 use Rattle.stations.proofs.find.rank.Statement.{statement}
 use Rattle.stations.proofs.find.rank.Tie as tie
 
 abbrev Inv-loop : tie.InvT-loop
-Inv-loop address t low₀ high₀ low high = (low ≤ rankOf address (live t)) × ((rankOf address (live t) ≤ high) × (high ≤ t .count))
+Inv-loop rows address low₀ high₀ low high =
+    (low ≤ rankOf address (stationsIn rows)) × ((rankOf address (stationsIn rows) ≤ high) × (high ≤ getD rows 0 0))
 
 abbrev μ-loop : tie.MeasureT-loop
-μ-loop address t low₀ high₀ low high = high - low
+μ-loop rows address low₀ high₀ low high = high - low
+
+count-requires : tie.Need-count-requires Inv-loop μ-loop
+count-requires c κs = search needs
 
 loop-holds : tie.Need-loop-holds Inv-loop μ-loop
-loop-holds c = (omega arith, (rank-in (c .pre) _, omega arith))
+loop-holds c = (omega arith, (rw (c .count .ensures) (row-rank (c .before .pre) _), omega (arith, (c .count .ensures))))
 
 add-middle : tie.Need-add-middle Inv-loop μ-loop
-add-middle c = search needs
+add-middle c =
+    let entry = c .before .before .before in
+    record { fits = omega (arith, count-few (entry .pre)) }
 
-mul-if1 : tie.Need-mul-if1 Inv-loop μ-loop
-mul-if1 c = search needs
-
-element-copy-out-if1 : tie.Need-element-copy-out-if1 Inv-loop μ-loop
-element-copy-out-if1 c = search needs
+address-in-requires : tie.Need-address-in-requires Inv-loop μ-loop
+address-in-requires c κs =
+    let entry = c .before .before .before in
+    omega (arith, count-few (entry .pre))
 
 add-low : tie.Need-add-low Inv-loop μ-loop
 add-low c = search needs
@@ -34,18 +40,22 @@ loop-less c = search needs
 
 loop-again : tie.Need-loop-again Inv-loop μ-loop
 loop-again c =
-    let entry = c .before .before .before in
-    let loop = c .before .before .loop in
-    (half-right (entry .pre) _ (((loop .low) + (loop .high)) / 2) _ (omega arith) (c .if1 .taken), ((loop .inv .1 .0), (loop .inv .1 .1)))
+    let entry = c .before .before .before .before .before in
+    let loop = c .before .before .before .loop in (
+      row-right (entry .pre) (((loop .low) + (loop .high)) / 2) (omega arith) _ (c .before .address-in .ensures) (c .if1 .taken),
+      ((loop .inv) .1 .0, (loop .inv) .1 .1),
+    )
 
 loop-less-2 : tie.Need-loop-less-2 Inv-loop μ-loop
 loop-less-2 c = search needs
 
 loop-again-2 : tie.Need-loop-again-2 Inv-loop μ-loop
 loop-again-2 c =
-    let entry = c .before .before .before in
-    let loop = c .before .before .loop in
-    ((loop .inv .0), (half-left (entry .pre) _ (((loop .low) + (loop .high)) / 2) _ (omega arith) (c .if1 .left), omega arith))
+    let entry = c .before .before .before .before .before in
+    let loop = c .before .before .before .loop in (
+      (loop .inv) .0,
+      (row-left (entry .pre) (((loop .low) + (loop .high)) / 2) (omega arith) _ (c .before .address-in .ensures) (c .if1 .left), omega arith),
+    )
 
 returns : tie.Need-returns Inv-loop μ-loop
 returns c = search needs
@@ -56,10 +66,10 @@ rank-spec =
     (tie.spec
     Inv-loop
     μ-loop
+    count-requires
     loop-holds
     add-middle
-    mul-if1
-    element-copy-out-if1
+    address-in-requires
     add-low
     loop-less
     loop-again

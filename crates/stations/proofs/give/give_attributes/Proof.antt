@@ -1,39 +1,59 @@
--- In ascending order the station found is the only one of its address. Assumes nothing.
-use mathlib.Core.Path.{sym, _∙_}
-use Rattle.stations.proofs.Hearings.{given-none, given-some, given-inside}
+-- The station read at a place in use is that of the list; past the stations a store in the list changes nothing. Assumes nothing.
+use mathlib.Core.Path.{sym, ap, _∙_}
+use Prim.Native.Nat.{_<_, _≤_}
+use native.Mathlib.Omega.{arith}
+use lib.ListN.{length, set}
+use lib.Seq.{set-out}
+use Rattle.stations.specs.Station.{Station, withAttributes}
+use Rattle.stations.specs.Rows.{stationsIn, rowsOf}
+use Rattle.stations.proofs.Reading.{count-few, count-long, rows-whole, store-at, read-any}
 use borrow.Author.Needs.{needs}
 use Rattle.stations.proofs.give.give_attributes.Statement.{statement}
 use Rattle.stations.proofs.give.give_attributes.Tie as tie
 
-find-station-requires : tie.Need-find-station-requires
-find-station-requires c κs = search needs
+count-requires : tie.Need-count-requires
+count-requires c κs = search needs
 
-enum-told : tie.Need-enum-told
-enum-told c = search needs
-
-enum-known-f : tie.Need-enum-known-f
-enum-known-f c = search needs
-
-dress-at-requires : tie.Need-dress-at-requires
-dress-at-requires c κs =
+station-in-requires : tie.Need-station-in-requires
+station-in-requires c κs =
     let entry = c .before .before .before .before in
-    let find-station = c .before .before .before .find-station in
-    ((entry .pre), given-inside (entry .pre) _ (entry .args .x) _ (sym (find-station .ensures) ∙ (c .before .f .given .1)))
+    let count = c .before .before .count in
+    omega (arith, count-few (entry .pre .held), (count .ensures))
+
+dress-requires : tie.Need-dress-requires
+dress-requires c κs = search needs
+
+put-station-requires : tie.Need-put-station-requires
+put-station-requires c κs =
+    let entry = c .before .before .before .before .before .before .before in
+    let count = c .before .before .before .before .before .count in
+    omega (arith, count-few (entry .pre .held), (count .ensures))
 
 returns : tie.Need-returns
 returns c =
-    let entry = c .before .before .before in
-    let find-station = c .before .before .find-station in
-    given-none (entry .pre) _ _ (sym (find-station .ensures) ∙ (c .enum-told .given .1))
+    let entry = c .before .before .before .before .before .before .before .before in
+    let count = c .before .before .before .before .before .before .count in
+    let station-in = c .before .before .before .station-in in
+    let l = stationsIn (entry .args .rows .now) in
+    let inside : entry .args .at < length l = omega (arith, (count .ensures), count-long (entry .pre .held)) in
+    store-at (entry .pre .held) (entry .args .at) (c .before .dress .result) inside (c .put-station .ensures)
+    ∙ ap (λ (s : Station). rowsOf (set l (entry .args .at) s))
+    ((c .before .dress .ensures) ∙ ap (withAttributes (entry .args .x)) ((station-in .ensures) ∙ read-any (entry .pre .held) (entry .args .at)))
 
 returns-2 : tie.Need-returns-2
 returns-2 c =
-    let entry = c .before .before .before .before .before in
-    let find-station = c .before .before .before .before .find-station in
-    let f = c .before .before .f in
-    (c .dress-at .ensures) ∙ given-some (entry .pre) _ _ _ (sym (find-station .ensures) ∙ (f .given .1))
+    let entry = c .before .before .before in
+    let l = stationsIn (entry .args .rows .now) in
+    let past : length l ≤ entry .args .at = omega (arith, (c .before .count .ensures), count-long (entry .pre .held)) in
+    rows-whole (entry .pre .held) ∙ ap rowsOf (sym (set-out l (entry .args .at) _ past))
 
 pub give-attributes-spec : {M : Type 1} → statement M
 give-attributes-spec =
     tie.close
-    (tie.spec find-station-requires enum-told enum-known-f dress-at-requires returns returns-2)
+    (tie.spec
+    count-requires
+    station-in-requires
+    dress-requires
+    put-station-requires
+    returns
+    returns-2)

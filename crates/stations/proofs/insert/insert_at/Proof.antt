@@ -1,66 +1,92 @@
 -- The free place moves down from the end; the places without it do not change. Assumes nothing.
-use Rattle.stations.specs.Stations.{capacity}
-use Rattle.stations.proofs.Shifts.{down-step, down-end}
-use Rattle.stations.proofs.Tables.{places-long}
+use Rattle.stations.proofs.Shifting.{Shifting, shifting-none, shifting-down, shifted-in}
+use Rattle.stations.proofs.Reading.{count-long}
 use native.Mathlib.Omega.{arith}
-use lib.ListN.{length, take, drop}
-use mathlib.Core.List.{_++_}
-use mathlib.Core.Path.{_≡_, refl, _∙_}
-use Prim.Native.Nat.{_≤_, _+_, _-_}
+use Prim.Native.Nat.{_≤_}
 use borrow.Author.Needs.{needs}
 use Rattle.stations.proofs.insert.insert_at.Statement.{statement}
 use Rattle.stations.proofs.insert.insert_at.Tie as tie
+use Rattle.stations.proofs.insert.insert_at.Reads as reads
+use Rattle.stations.proofs.insert.insert_at.Lts as lts
+use Rattle.stations.proofs.rows.copy_place.Reads as copy-place-reads
+use Rattle.stations.proofs.rows.count.Reads as count-reads
+use Rattle.stations.proofs.rows.put_station.Reads as put-station-reads
+use Rattle.stations.proofs.rows.set_count.Reads as set-count-reads
 
 abbrev Inv-loop : tie.InvT-loop
-Inv-loop at s t₀ n i₀ t i =
-    (at ≤ i) × ((i ≤ n) × ((length (t .places) ≡ capacity)
-    × (take i (t .places) ++ drop (i + 1) (t .places) ≡ take n (t₀ .places) ++ drop (n + 1) (t₀ .places))))
+Inv-loop rows₀ at s n i₀ rows i = (at ≤ i) × (i ≤ n) × Shifting rows₀ rows n i
 
 abbrev μ-loop : tie.MeasureT-loop
-μ-loop at s t₀ n i₀ t i = i
+μ-loop rows₀ at s n i₀ rows i = i
 
+-- src/insert.rt:22:9
+count-requires : tie.Need-count-requires Inv-loop μ-loop
+count-requires c κs = search needs
+
+-- src/insert.rt:24:5
 loop-holds : tie.Need-loop-holds Inv-loop μ-loop
-loop-holds c = (omega (arith, (c .pre .2)), (omega arith, (places-long (c .pre .0), refl)))
+loop-holds c =
+    let entry = c .before .before in
+    (omega (arith, count-long (entry .pre .0), (c .count .ensures), (entry .pre) .2), search needs, shifting-none _ (entry .pre .0))
 
+-- src/insert.rt:25:21
 sub-below : tie.Need-sub-below Inv-loop μ-loop
 sub-below c = search needs
 
-mul-t : tie.Need-mul-t Inv-loop μ-loop
-mul-t c = search needs
+-- src/insert.rt:26:9
+copy-place-requires : tie.Need-copy-place-requires Inv-loop μ-loop
+copy-place-requires c κs =
+    let entry = c .before .before .before .before .before in
+    let count = c .before .before .before .count in (
+      omega (arith, count-long (entry .pre .0), (count .ensures), (entry .pre) .1),
+      omega
+          (arith, count-long (entry .pre .0), (count .ensures), (entry .pre) .1),
+    )
 
-element-copy-out-t : tie.Need-element-copy-out-t Inv-loop μ-loop
-element-copy-out-t c = search needs
-
-mul-t13 : tie.Need-mul-t13 Inv-loop μ-loop
-mul-t13 c = search needs
-
-element-set-from-t : tie.Need-element-set-from-t Inv-loop μ-loop
-element-set-from-t c = search needs
-
+-- src/insert.rt:24:5
 loop-less : tie.Need-loop-less Inv-loop μ-loop
 loop-less c = search needs
 
+-- src/insert.rt:24:5
 loop-again : tie.Need-loop-again Inv-loop μ-loop
 loop-again c =
-    let at = c .before .before .loop in (
+    let entry = c .before .before .before .before .before .before in
+    let count = c .before .before .before .before .count in
+    let loop = c .before .before .before .loop in (
       search needs,
-      (search needs, (search needs, down-step (at .t .places) (at .i) _ (omega arith) (omega arith) ∙ at .inv .1 .1 .1)),
+      search needs,
+      shifting-down (loop .inv .2) (omega arith)
+          (omega (arith, count-long (entry .pre .0), (count .ensures), (entry .pre) .1)) (c .copy-place .ensures),
     )
 
-mul-s : tie.Need-mul-s Inv-loop μ-loop
-mul-s c = search needs
+-- src/insert.rt:29:5
+put-station-requires : tie.Need-put-station-requires Inv-loop μ-loop
+put-station-requires c κs =
+    let entry = c .before .before .before .before .before in
+    omega (arith, (entry .pre) .1, (entry .pre) .2)
 
-element-set-from-s : tie.Need-element-set-from-s Inv-loop μ-loop
-element-set-from-s c = search needs
+-- src/insert.rt:30:21
+add-set-count : tie.Need-add-set-count Inv-loop μ-loop
+add-set-count c =
+    let entry = c .before .before .before .before .before .before .before in
+    let count = c .before .before .before .before .before .count in
+    record { fits = omega (arith, count-long (entry .pre .0), (entry .pre) .1, (count .ensures)) }
 
-add-t : tie.Need-add-t Inv-loop μ-loop
-add-t c = search needs
+-- src/insert.rt:30:5
+set-count-requires : tie.Need-set-count-requires Inv-loop μ-loop
+set-count-requires c κs = search needs
 
+-- src/insert.rt:18:1
 returns : tie.Need-returns Inv-loop μ-loop
 returns c =
-    let entry = c .before .before in
-    down-end _ (c .before .loop .i) _ _ (entry .pre .0) (entry .pre .1) (entry .pre .2) (omega arith) (c .before .loop .inv .1 .1 .0)
-    (c .before .loop .inv .1 .1 .1)
+    let entry = c .before .before .before .before .before .before .before .before in
+    let count = c .before .before .before .before .before .before .count in
+    let loop = c .before .before .before .before .before .loop in
+    let loop-test = c .before .before .before .before .loop-test in
+    let put-station = c .before .before .put-station in
+    shifted-in (entry .pre .0) (loop .inv .2) _ _ (count .ensures) (omega (arith, count-long (entry .pre .0), (count .ensures), (entry .pre) .1)) (omega
+    (arith, count-long (entry .pre .0), (count .ensures), (entry .pre) .2)) (omega (arith, (loop-test .left))) (put-station .ensures)
+    (c .set-count .ensures)
 
 pub insert-at-spec : {M : Type 1} → statement M
 insert-at-spec =
@@ -68,15 +94,13 @@ insert-at-spec =
     (tie.spec
     Inv-loop
     μ-loop
+    count-requires
     loop-holds
     sub-below
-    mul-t
-    element-copy-out-t
-    mul-t13
-    element-set-from-t
+    copy-place-requires
     loop-less
     loop-again
-    mul-s
-    element-set-from-s
-    add-t
+    put-station-requires
+    add-set-count
+    set-count-requires
     returns)

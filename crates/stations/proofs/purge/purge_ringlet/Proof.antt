@@ -1,7 +1,8 @@
--- Where nothing is to be purged, nothing changes. Assumes nothing.
-use mathlib.Core.Path.{sym, _∙_, ap}
-use Rattle.stations.specs.Table.{live, tableOf}
+-- Where no station is changed the words are those of the purge. Assumes nothing.
+use mathlib.Core.Path.{sym, ap, _∙_}
+use Rattle.stations.specs.Rows.{rowsOf}
 use Rattle.stations.proofs.Sifting.{purged-none}
+use Rattle.stations.proofs.Reading.{rows-whole}
 use borrow.Author.Needs.{needs}
 use Rattle.stations.proofs.purge.purge_ringlet.Statement.{statement}
 use Rattle.stations.proofs.purge.purge_ringlet.Tie as tie
@@ -17,9 +18,8 @@ returns c = search needs
 
 returns-2 : tie.Need-returns-2
 returns-2 c =
-    let entry = c .before .before in
-    (entry .pre .whole) ∙ ap tableOf (sym
-    (purged-none (entry .args .ringlet) (live (entry .args .t)) (sym (c .before .is-heard .ensures) ∙ (c .if1 .left))))
+    let entry = c .before .before .before in
+    rows-whole (entry .pre .held) ∙ ap rowsOf (sym (purged-none (entry .args .ringlet) _ (sym (c .before .is-heard .ensures) ∙ (c .if1 .left))))
 
 pub purge-ringlet-spec : {M : Type 1} → statement M
 purge-ringlet-spec =

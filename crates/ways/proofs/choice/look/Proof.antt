@@ -1,13 +1,13 @@
 -- No hop, a broken walk, a worst request below SF or not: the four cases of a usable way. Assumes nothing.
 use native.Mathlib.Omega.{arith}
-use Rattle.stations.specs.Table.{live}
+use Rattle.stations.specs.Rows.{stationsIn}
 use Rattle.ways.proofs.Sides.{side-zero, side-broken, side-open, side-closed}
 use borrow.Author.Needs.{needs}
 use Rattle.ways.proofs.choice.look.Statement.{statement}
 use Rattle.ways.proofs.choice.look.Tie as tie
 
 returns : tie.Need-returns
-returns c = side-zero (c .before .args .ringlet) (c .before .args .own) (live (c .before .args .t)) (c .before .args .h) (c .if1 .taken)
+returns c = side-zero (c .before .args .ringlet) (c .before .args .own) (stationsIn (c .before .args .rows .now)) (c .before .args .h) (c .if1 .taken)
 
 walk-to-requires : tie.Need-walk-to-requires
 walk-to-requires c κs = search needs
@@ -20,27 +20,28 @@ enum-known-w c = search needs
 
 returns-2 : tie.Need-returns-2
 returns-2 c =
-    let entry = c .before .before .before .before .before .before in
-    let if1 = c .before .before .before .before .before .if1 in
+    let entry = c .before .before .before .before .before .before .before in
+    let if1 = c .before .before .before .before .before .before .if1 in
     let walk-to = c .before .before .before .before .walk-to in
     let w = c .before .before .w in
-    side-open (entry .args .ringlet) (entry .args .own) (live (entry .args .t)) (entry .args .h) (walk-to .ensures) (if1 .left) (w .given .1)
-    (omega arith)
+    side-open (entry .args .ringlet) (entry .args .own) (stationsIn (entry .args .rows .now)) (entry .args .h) (walk-to .ensures)
+    (if1 .left) (w .given .1) (omega arith)
 
 returns-3 : tie.Need-returns-3
 returns-3 c =
-    let entry = c .before .before .before .before in
+    let entry = c .before .before .before .before .before in
     let walk-to = c .before .before .walk-to in
-    side-broken (entry .args .ringlet) (entry .args .own) (live (entry .args .t)) (entry .args .h) (walk-to .ensures) (c .enum-told .given .1)
+    side-broken (entry .args .ringlet) (entry .args .own) (stationsIn (entry .args .rows .now)) (entry .args .h) (walk-to .ensures)
+    (c .enum-told .given .1)
 
 returns-4 : tie.Need-returns-4
 returns-4 c =
-    let entry = c .before .before .before .before .before .before in
-    let if1 = c .before .before .before .before .before .if1 in
+    let entry = c .before .before .before .before .before .before .before in
+    let if1 = c .before .before .before .before .before .before .if1 in
     let walk-to = c .before .before .before .before .walk-to in
     let w = c .before .before .w in
-    side-closed (entry .args .ringlet) (entry .args .own) (live (entry .args .t)) (entry .args .h) (walk-to .ensures) (if1 .left) (w .given .1)
-    (omega arith)
+    side-closed (entry .args .ringlet) (entry .args .own) (stationsIn (entry .args .rows .now)) (entry .args .h) (walk-to .ensures)
+    (if1 .left) (w .given .1) (omega arith)
 
 pub look-spec : {M : Type 1} → statement M
 look-spec =

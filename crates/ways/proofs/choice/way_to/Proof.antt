@@ -1,5 +1,5 @@
 -- The station found gives both hops; each direction is looked at, and the choice is between the two. Assumes nothing.
-use Rattle.stations.specs.Table.{live}
+use Rattle.stations.specs.Rows.{stationsIn}
 use Rattle.ways.proofs.Sides.{way-unknown, way-known}
 use borrow.Author.Needs.{needs}
 use Rattle.ways.proofs.choice.way_to.Statement.{statement}
@@ -33,18 +33,19 @@ returns : tie.Need-returns
 returns c =
     let entry = c .before .before .before in
     let find-station = c .before .before .find-station in
-    way-unknown (entry .args .west) (entry .args .east) (entry .args .address) (live (entry .args .t)) (find-station .ensures) (c .enum-told .given .1)
+    way-unknown (entry .args .west) (entry .args .east) (entry .args .address) (stationsIn (entry .args .rows .now))
+    (find-station .ensures) (c .enum-told .given .1)
 
 returns-2 : tie.Need-returns-2
 returns-2 c =
-    let entry = c .before .before .before .before .before .before .before .before .before in
-    let find-station = c .before .before .before .before .before .before .before .before .find-station in
-    let f = c .before .before .before .before .before .before .f in
-    let hop-at = c .before .before .before .before .hop-at in
-    let hop-at2 = c .before .before .before .hop-at2 in
-    let look = c .before .before .look in
-    way-known (entry .args .west) (entry .args .east) (entry .args .address) (live (entry .args .t)) (find-station .ensures) (f .given .1)
-    (hop-at .ensures) (hop-at2 .ensures) (look .ensures) (c .before .look2 .ensures) (c .choose .ensures)
+    let entry = c .before .before .before .before .before .before .before .before .before .before .before in
+    let find-station = c .before .before .before .before .before .before .before .before .before .before .find-station in
+    let f = c .before .before .before .before .before .before .before .before .f in
+    let hop-at = c .before .before .before .before .before .before .hop-at in
+    let hop-at2 = c .before .before .before .before .before .hop-at2 in
+    let look = c .before .before .before .look in
+    way-known (entry .args .west) (entry .args .east) (entry .args .address) (stationsIn (entry .args .rows .now))
+    (find-station .ensures) (f .given .1) (hop-at .ensures) (hop-at2 .ensures) (look .ensures) (c .before .look2 .ensures) (c .choose .ensures)
 
 pub way-to-spec : {M : Type 1} → statement M
 way-to-spec =
