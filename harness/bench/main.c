@@ -20,6 +20,7 @@ static const struct { const char *op; run *proved, *peer; } runs[] = {
     {"record", bench_record, peer_record},
     {"steer", bench_steer, peer_steer},
     {"attributes", bench_attributes, peer_attributes},
+    {"free", bench_free, peer_free},
 };
 
 static run *named(const char *side, const char *op) {
@@ -36,7 +37,7 @@ static uint32_t number(const char *word) { return (uint32_t)strtoul(word, NULL, 
 int main(int count, char **words) {
     run *what = count == 6 ? named(words[1], words[2]) : NULL;
     if (!what) {
-        fputs("usage: proved|c setup|record|steer|attributes STATIONS WHICH CALLS|stack\n", stderr);
+        fputs("usage: proved|c setup|record|steer|attributes|free STATIONS WHICH CALLS|stack\n", stderr);
         return 2;
     }
     if (strcmp(words[5], "stack") == 0) show_stack(what, number(words[3]), number(words[4]));

@@ -125,3 +125,15 @@ uint64_t peer_attributes(uint32_t stations, uint32_t which, uint32_t calls) {
     }
     return sum;
 }
+
+/* The link rate is the number; the node has reserved 1 and 2. The result, and 256 for the defect. */
+uint64_t peer_free(uint32_t stations, uint32_t rate, uint32_t calls) {
+    struct ring r;
+    uint64_t sum = 0;
+    set_up(&r, capped(stations));
+    for (uint32_t left = calls; left > 0; left--) {
+        const struct free_bandwidth free = ring_free(&r, rate, 1, 2);
+        sum += (uint64_t)free.result + (free.excess ? 256 : 0);
+    }
+    return sum;
+}

@@ -216,6 +216,18 @@ struct shown ring_attributes(const struct ring *r, uint64_t address) {
     return (struct shown){.reply = a->behind ? BEHIND : 0, .attributes = *a};
 }
 
+struct free_bandwidth ring_free(const struct ring *r, uint32_t rate, uint16_t own0, uint16_t own1) {
+    if (rate > 65535) return (struct free_bandwidth){.result = 4};
+    if (r->settings.level < 2) return (struct free_bandwidth){.result = 32};
+    int32_t left[2] = {(int32_t)rate - own0, (int32_t)rate - own1};
+    for (const struct station *s = r->station; s < r->station + r->stations; s++) {
+        if (s->attributes.behind) return (struct free_bandwidth){.result = 31, .address = s->address};
+        left[0] -= s->attributes.bandwidth[0];
+        left[1] -= s->attributes.bandwidth[1];
+    }
+    return (struct free_bandwidth){.ringlet = {left[0], left[1]}, .excess = left[0] < 0 || left[1] < 0};
+}
+
 /* Start. */
 
 static bool in_range(unsigned number, unsigned least, unsigned most) { return least <= number && number <= most; }

@@ -63,11 +63,20 @@ struct shown {
     struct attributes attributes;
 };
 
+/* The result is 0 or a refusal; of 31 the address is that of the first station that is behind. */
+struct free_bandwidth {
+    uint64_t address;
+    int32_t ringlet[2];
+    int result;
+    bool excess;
+};
+
 int ring_start(struct ring *r, const uint8_t *record, size_t length);
 int ring_record(struct ring *r, const uint8_t *record, size_t length, uint8_t *out, size_t room, bool *wrote);
 int ring_request(const struct ring *r, int side);
 int ring_steer(const struct ring *r, uint64_t address);
 struct shown ring_attributes(const struct ring *r, uint64_t address);
+struct free_bandwidth ring_free(const struct ring *r, uint32_t rate, uint16_t own0, uint16_t own1);
 uint64_t ring_address(const uint8_t *bytes);
 
 #endif

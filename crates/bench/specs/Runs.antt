@@ -5,6 +5,7 @@ use mathlib.Core.List.{List}
 use lib.Dec.{eqb, ltb}
 use Rattle.controller.specs.declared.ask.Shown.{Shown}
 use Rattle.controller.specs.Node.{Node, Answer}
+use Rattle.bandwidth.specs.declared.free.Free.{Free}
 use Rattle.bench.specs.Records.{middle}
 use Rattle.bench.specs.Ring.{taken, ringOf, parted, forced}
 
@@ -20,6 +21,10 @@ carried b (suc left) n = told (taken n b) + carried b left (taken n b .node)
 -- The reply to a question for attributes, and the first weight.
 abbrev pub weighed : Shown → ℕ
 weighed x = x .reply + x .weight0
+
+-- The result of a question for free bandwidth, and 256 for the defect.
+abbrev pub freed : Free → ℕ
+freed x = x .result + cond (x .excess) 256 0
 
 -- 02-00-00-00-01-k as a number.
 abbrev pub station : ℕ → ℕ

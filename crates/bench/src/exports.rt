@@ -6,6 +6,7 @@ use crate::ring::force;
 use crate::ring::part;
 use crate::ring::ring;
 use crate::runs::carry;
+use crate::runs::free_all;
 use crate::runs::show_all;
 use crate::runs::steer_all;
 use controller::OWN_WORDS;
@@ -15,9 +16,10 @@ ghost use Prim.Native.Nat.{_*_, _≤_};
 ghost use lib.ListN.{length};
 ghost use Rattle.ways.specs.Choice.{number};
 ghost use Rattle.controller.specs.Node.{node, stateOf, steered, asked};
+ghost use Rattle.bandwidth.specs.Free.{freeBandwidth};
 ghost use Rattle.bench.specs.Records.{recordOf};
 ghost use Rattle.bench.specs.Ring.{Stands, capped, ringOf};
-ghost use Rattle.bench.specs.Runs.{carried, weighed, station, addressee, standing, readied};
+ghost use Rattle.bench.specs.Runs.{carried, weighed, freed, station, addressee, standing, readied};
 
 // The ring alone: how many stations are in the table.
 #[no_mangle]
@@ -115,4 +117,15 @@ pub extern "C" fn bench_attributes(stations: u32, which: u32, calls: u32) -> u64
     let mut rows = [0; ROW_WORDS];
     stand(&mut own, &mut rows, s, which);
     show_all(&own, &rows, addressee(s, which), calls)
+}
+
+// The ring, then `calls` times what is left of each ringlet at this link rate.
+#[no_mangle]
+pub extern "C" fn bench_free(stations: u32, rate: u32, calls: u32) -> u64
+    ensures { λ r. ⌜ r ≡ calls * freed (freeBandwidth (stateOf (ringOf (capped stations))) rate 1 2) ⌝ }
+{
+    let mut own = [0; OWN_WORDS];
+    let mut rows = [0; ROW_WORDS];
+    ring(&mut own, &mut rows, capped(stations));
+    free_all(&own, &rows, rate, calls)
 }

@@ -8,7 +8,8 @@ ghost use Prim.Native.Nat.{_+_, _*_, _^_, _<_};
 ghost use Rattle.ways.specs.Choice.{number};
 ghost use Rattle.controller.specs.Kept.{Kept};
 ghost use Rattle.controller.specs.Node.{node, stateOf, steered, asked};
-ghost use Rattle.bench.specs.Runs.{told, carried, weighed};
+ghost use Rattle.bandwidth.specs.Free.{freeBandwidth};
+ghost use Rattle.bench.specs.Runs.{told, carried, weighed, freed};
 
 // The result, and 256 for a report that was written.
 fn told(result: u8, wrote: bool) -> u64
@@ -99,6 +100,42 @@ pub(crate) fn show_all(
     while 0 < left {
         left -= 1;
         sum += shown_sum(own, rows, still(address, sum));
+    }
+    sum
+}
+
+// What is left of a link rate, of which the node has 1 and 2: the result, and 256 for the defect.
+fn free_sum(own: &[u64; OWN_WORDS], rows: &[u64; ROW_WORDS], rate: u32) -> u64
+    requires { ⌜ Kept (node (now own) (now rows)) ⌝ }
+    ensures { λ r. ⌜ (r ≡ freed (freeBandwidth (stateOf (node (now (own .entry)) (now (rows .entry)))) rate 1 2)) × (r < 512) ⌝ }
+{
+    let x = bandwidth::free_bandwidth(own, rows, rate, 1, 2);
+    told(x.result, x.excess)
+}
+
+// The same link rate, hung on the sum as the address is.
+fn same_rate(rate: u32, sum: u64) -> u32
+    requires { ⌜ sum < 2 ^ 41 ⌝ }
+    ensures { λ r. ⌜ r ≡ rate ⌝ }
+{
+    still(rate as u64, sum) as u32
+}
+
+// What is left of a link rate, asked many times.
+pub(crate) fn free_all(
+    own: &[u64; OWN_WORDS],
+    rows: &[u64; ROW_WORDS],
+    rate: u32,
+    calls: u32,
+) -> u64
+    requires { ⌜ Kept (node (now own) (now rows)) ⌝ }
+    ensures { λ r. ⌜ r ≡ calls * freed (freeBandwidth (stateOf (node (now (own .entry)) (now (rows .entry)))) rate 1 2) ⌝ }
+{
+    let mut left = calls;
+    let mut sum: u64 = 0;
+    while 0 < left {
+        left -= 1;
+        sum += free_sum(own, rows, same_rate(rate, sum));
     }
     sum
 }

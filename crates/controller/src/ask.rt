@@ -1,5 +1,6 @@
 // What may be asked of a node between records.
 use crate::own::OWN_WORDS;
+use crate::own::level_in;
 use crate::own::pacer_in;
 use crate::own::span_in;
 use crate::own::ticks_in;
@@ -12,7 +13,7 @@ ghost use mathlib.Core.Bool.{cond};
 ghost use Rattle.controller.specs.Kept.{Kept};
 ghost use mathlib.Core.Option.{some};
 ghost use lib.ListN.{length};
-ghost use Rattle.controller.specs.Node.{node, stateOf, westRequest, eastRequest, steered, shown, asked};
+ghost use Rattle.controller.specs.Node.{node, settingsOf, stateOf, westRequest, eastRequest, steered, shown, asked};
 
 // The replies of `attributes`.
 const WITH_VALUES: u8 = 0;
@@ -99,6 +100,14 @@ pub fn east_request(own: &[u64; OWN_WORDS], rows: &[u64; ROW_WORDS]) -> u8
     ensures { λ r. ⌜ r ≡ eastRequest (stateOf (node (now (own .entry)) (now (rows .entry)))) ⌝ }
 {
     spans::request(span_in(own, 1), ticks_in(own))
+}
+
+// The level that the node was started with.
+pub fn level(own: &[u64; OWN_WORDS], rows: &[u64; ROW_WORDS]) -> u8
+    requires { ⌜ Kept (node (now own) (now rows)) ⌝ }
+    ensures { λ r. ⌜ r ≡ settingsOf (node (now (own .entry)) (now (rows .entry))) .level ⌝ }
+{
+    level_in(own)
 }
 
 // The own sequence: 0 at start, then that of the latest report.

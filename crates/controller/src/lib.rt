@@ -13,6 +13,7 @@ mod record;
 pub use ask::Shown;
 pub use ask::attributes;
 pub use ask::east_request;
+pub use ask::level;
 pub use ask::own_sequence;
 pub use ask::station_count;
 pub use ask::steer;

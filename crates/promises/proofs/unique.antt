@@ -7,3 +7,4 @@ pub mod Blocks
 pub mod Stations
 pub mod Ways
 pub mod Controller
+pub mod Bandwidth

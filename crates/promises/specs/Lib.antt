@@ -15,3 +15,5 @@ pub mod Quiet
 pub mod Cases
 pub mod LevelDrills
 pub mod SteeringDrills
+pub mod Bandwidth
+pub mod BandwidthDrills

@@ -17,6 +17,7 @@ pub use find::Found;
 pub use find::find_station;
 pub use give::give_attributes;
 pub use hear::hear_report;
+pub use look::address_at;
 pub use look::attributes_at;
 pub use look::east_at;
 pub use look::hop_at;

@@ -1,6 +1,7 @@
 // What may be asked of a table: how many stations it has, and what stands at a place. A place that is not in use shows a blank.
 use crate::rows::PLACES;
 use crate::rows::ROW_WORDS;
+use crate::rows::address_in;
 use crate::rows::attributes_in;
 use crate::rows::count;
 use crate::rows::east_in;
@@ -23,6 +24,17 @@ pub fn station_count(rows: &[u64; ROW_WORDS]) -> usize
         return n;
     }
     PLACES
+}
+
+// The address of the station at a place.
+pub fn address_at(rows: &[u64; ROW_WORDS], at: usize) -> u64
+    requires { ⌜ RowsKept (now rows) ⌝ }
+    ensures { λ r. ⌜ r ≡ getD (stationsIn (now (rows .entry))) at blank .address ⌝ }
+{
+    if at < PLACES {
+        return address_in(rows, at);
+    }
+    0
 }
 
 // The hop of the station at a place on a ringlet.

@@ -22,6 +22,33 @@ pub fn block(chance: &mut Chance) -> Vec<u8> {
     block
 }
 
+/// A block that reserves this much on each ringlet, with other entries that may be optional and unknown.
+pub fn reserving(chance: &mut Chance, bandwidths: [u16; 2]) -> Vec<u8> {
+    let [[a, b], [c, d]] = bandwidths.map(u16::to_be_bytes);
+    let mut list = vec![reserved(chance, [a, b, c, d])];
+    if chance.percent(30) {
+        list.push(weights(chance));
+    }
+    if chance.percent(15) {
+        list.push(unknown(chance, false));
+    }
+    chance.shuffle(&mut list);
+    list.concat()
+}
+
+/// A block that no level knows all of, so that it is set aside. What it reserves does not count.
+pub fn set_aside(chance: &mut Chance) -> Vec<u8> {
+    let mut list = vec![unknown(chance, true)];
+    if chance.percent(40) {
+        list.push(bandwidths(chance));
+    }
+    if chance.percent(20) {
+        list.push(unknown(chance, true));
+    }
+    chance.shuffle(&mut list);
+    list.concat()
+}
+
 /// Known types at most once, among unknown ones, in any order.
 fn entries(chance: &mut Chance) -> Vec<u8> {
     let mut list = Vec::new();
@@ -68,6 +95,10 @@ fn weights(chance: &mut Chance) -> Vec<u8> {
 
 fn bandwidths(chance: &mut Chance) -> Vec<u8> {
     let value = [chance.byte(), chance.byte(), chance.byte(), chance.byte()];
+    reserved(chance, value)
+}
+
+fn reserved(chance: &mut Chance, value: [u8; 4]) -> Vec<u8> {
     let bit = chance.percent(60);
     entry(chance, bit, 2, 4, &value)
 }
@@ -157,6 +188,21 @@ mod tests {
     use super::*;
     use model::blocks::{read, Attributes, Reading};
     use model::faults::RIGHT;
+
+    #[test]
+    fn what_is_reserved_is_read_and_what_is_set_aside_is_not() {
+        let mut chance = Chance::new(6);
+        for _ in 0..2_000 {
+            let reserve = reserving(&mut chance, [0x1234, 65_535]);
+            let read_back = match read::<RIGHT>(2, &reserve) {
+                Reading::Whole(Attributes::Known(values)) => values.bandwidths,
+                other => panic!("{other:?}"),
+            };
+            assert_eq!(read_back, [0x1234, 65_535]);
+            let aside = read::<RIGHT>(2, &set_aside(&mut chance));
+            assert!(matches!(aside, Reading::Whole(Attributes::Behind(_))));
+        }
+    }
 
     #[test]
     fn all_three_readings_come_often_at_both_levels() {

@@ -49,6 +49,18 @@ impl Chance {
         choices[self.below(choices.len())]
     }
 
+    /// One of some choices, each as often as the weight before it says; not all weights are 0.
+    pub fn weighted<T: Copy>(&mut self, choices: &[(usize, T)]) -> T {
+        let all = choices.iter().map(|(weight, _)| weight).sum();
+        let mut left = self.below(all);
+        let mut place = 0;
+        while left >= choices[place].0 {
+            left -= choices[place].0;
+            place += 1;
+        }
+        choices[place].1
+    }
+
     /// Any order.
     pub fn shuffle<T>(&mut self, items: &mut [T]) {
         for last in (1..items.len()).rev() {
@@ -90,6 +102,18 @@ mod tests {
             numbers,
             [11_520, 0, 1_509_978_240, 1_215_971_899_390_074_240]
         );
+    }
+
+    #[test]
+    fn weights_are_kept() {
+        let mut chance = Chance::new(8);
+        let mut seen = [0; 4];
+        for _ in 0..4_000 {
+            seen[chance.weighted(&[(1, 0), (0, 1), (2, 2), (1, 3)])] += 1;
+        }
+        assert_eq!(seen[1], 0);
+        let near = |count: i32, wanted: i32| (count - wanted).abs() < 150;
+        assert!(near(seen[0], 1_000) && near(seen[2], 2_000), "{seen:?}");
     }
 
     #[test]

@@ -1,5 +1,5 @@
-//! The contest: drill after drill through the model and the other program, several at a time.
-//! It ends at the lowest seed whose drill shows a difference, and shortens that drill.
+//! The contest: drill after drill, or plan after plan, through the model and the other program, several at a time.
+//! It ends at the lowest seed whose input shows a difference, and shortens that input.
 
 use std::fs;
 use std::path::{Path, PathBuf};
@@ -8,25 +8,27 @@ use std::sync::mpsc::{self, Receiver, RecvTimeoutError, Sender};
 use std::thread;
 use std::time::{Duration, Instant};
 
-use model::drill::say;
-use model::faults::RIGHT;
-use text::accepting::accept;
 use text::program::{cannot, fresh_directory, Desk, Program, Room};
-use text::reading::Text;
-use text::writing;
 
 use crate::difference::Difference;
-use crate::drills::Drill;
 use crate::options::Options;
+use crate::probe::probe;
+use crate::script::Script;
 use crate::shorten::shorten;
+use crate::subject::{right, Subject};
 use crate::tally::Tally;
 use crate::voice::{tell, warn};
-use crate::worked;
 
 /// Time between two progress lines.
 const PROGRESS: Duration = Duration::from_secs(5);
 
-/// What became of one drill.
+/// What is compared with what.
+struct Match<'a> {
+    subject: &'a dyn Subject,
+    program: Program,
+}
+
+/// What became of one input.
 enum Outcome {
     Agreed(Box<Tally>),
     Differs(u64, Difference),
@@ -53,18 +55,20 @@ impl Queue {
 }
 
 /// Runs the contest; true if all agreed.
-pub fn contest(options: &Options) -> Result<bool, String> {
-    let program = Program::find(options.drill.as_deref())?;
+pub fn contest(subject: &dyn Subject, options: &Options) -> Result<bool, String> {
+    let program = Program::find(options.drill.as_deref(), subject.command())?;
     let room = Room::new("compare")?;
     let desk = room.desk(0)?;
-    worked::probe(&program, &desk)?;
+    probe(subject, &program, &desk)?;
+    let both = Match { subject, program };
     let started = Instant::now();
-    let (tally, found) = all_drills(options, &program, &room)?;
+    let (tally, found) = all_inputs(options, &both, &room)?;
     let seconds = started.elapsed().as_secs_f64();
     tell(&tally);
     tell(format!(
-        "{seconds:.1} s, {:.1} ms a drill, {:.0} lines a second, jobs {}",
-        1_000.0 * seconds / tally.drills.max(1) as f64,
+        "{seconds:.1} s, {:.1} ms a {}, {:.0} lines a second, jobs {}",
+        1_000.0 * seconds / tally.inputs.max(1) as f64,
+        subject.word(),
         tally.lines as f64 / seconds.max(0.001),
         options.jobs
     ));
@@ -74,7 +78,7 @@ pub fn contest(options: &Options) -> Result<bool, String> {
             Ok(true)
         }
         Some((seed, difference)) => {
-            show(options, &program, &desk, seed, &difference)?;
+            show(options, &both, &desk, seed, &difference)?;
             Ok(false)
         }
     }
@@ -83,7 +87,7 @@ pub fn contest(options: &Options) -> Result<bool, String> {
 type Found = Option<(u64, Difference)>;
 
 /// Lets the jobs work until the seeds, the time or the agreement end.
-fn all_drills(options: &Options, program: &Program, room: &Room) -> Result<(Tally, Found), String> {
+fn all_inputs(options: &Options, both: &Match, room: &Room) -> Result<(Tally, Found), String> {
     let now = Instant::now();
     let queue = Queue {
         next: AtomicU64::new(options.from),
@@ -96,17 +100,17 @@ fn all_drills(options: &Options, program: &Program, room: &Room) -> Result<(Tall
     thread::scope(|scope| {
         for desk in desks? {
             let (sender, queue) = (sender.clone(), &queue);
-            scope.spawn(move || job(program, &desk, queue, &sender));
+            scope.spawn(move || job(both, &desk, queue, &sender));
         }
         drop(sender);
-        gather(&receiver, &queue)
+        gather(both, &receiver, &queue)
     })
 }
 
-/// One job: a drill at a time until there is no more to do.
-fn job(program: &Program, desk: &Desk, queue: &Queue, sender: &Sender<Outcome>) {
+/// One job: an input at a time until there is no more to do.
+fn job(both: &Match, desk: &Desk, queue: &Queue, sender: &Sender<Outcome>) {
     while let Some(seed) = queue.take() {
-        let outcome = match one_drill(program, desk, &Drill::of(seed)) {
+        let outcome = match both.play(desk, &both.subject.make(seed)) {
             Ok(Ok(tally)) => Outcome::Agreed(Box::new(tally)),
             Ok(Err(difference)) => Outcome::Differs(seed, difference),
             Err(trouble) => Outcome::Trouble(format!("seed {seed}: {trouble}")),
@@ -120,30 +124,32 @@ fn job(program: &Program, desk: &Desk, queue: &Queue, sender: &Sender<Outcome>) 
     }
 }
 
-/// Both programs on one drill: the counts, or the difference.
-fn one_drill(
-    program: &Program,
-    desk: &Desk,
-    drill: &Drill,
-) -> Result<Result<Tally, Difference>, String> {
-    let bytes = drill.bytes();
-    let model = say::<RIGHT>(&bytes);
-    let mut said = program.say(&bytes, desk)?;
-    if let Some(ended) = said.ended {
-        // A program that ends badly differs, even if it said all lines before.
-        said.lines.extend(format!("({ended})").bytes());
+impl Match<'_> {
+    /// Both programs on one input: the counts, or the difference.
+    fn play(&self, desk: &Desk, script: &Script) -> Result<Result<Tally, Difference>, String> {
+        let bytes = script.bytes();
+        let model = right(self.subject, &bytes);
+        let mut said = self.program.say(&bytes, desk)?;
+        if let Some(ended) = said.ended {
+            // A program that ends badly differs, even if it said all lines before.
+            said.lines.extend(format!("({ended})").bytes());
+        }
+        Ok(match Difference::between(&model, &said.lines) {
+            None => Ok(self.subject.count(&bytes, &model)),
+            Some(difference) => Err(difference),
+        })
     }
-    Ok(match Difference::between(&model, &said.lines) {
-        None => Ok(Tally::of(&model)),
-        Some(difference) => Err(difference),
-    })
 }
 
 /// Collects what the jobs send; of several differences the lowest seed counts.
-fn gather(receiver: &Receiver<Outcome>, queue: &Queue) -> Result<(Tally, Found), String> {
+fn gather(
+    both: &Match,
+    receiver: &Receiver<Outcome>,
+    queue: &Queue,
+) -> Result<(Tally, Found), String> {
     let started = Instant::now();
     let mut shown = started;
-    let mut tally = Tally::default();
+    let mut tally = both.subject.nothing();
     let mut found: Found = None;
     let mut trouble = None;
     loop {
@@ -163,8 +169,10 @@ fn gather(receiver: &Receiver<Outcome>, queue: &Queue) -> Result<(Tally, Found),
             let seconds = started.elapsed().as_secs();
             let next = queue.next.load(Ordering::Relaxed);
             warn(format!(
-                "{seconds} s, {} drills and {} lines agreed, next seed {next}",
-                tally.drills, tally.lines
+                "{seconds} s, {} {}s and {} lines agreed, next seed {next}",
+                tally.inputs,
+                both.subject.word(),
+                tally.lines
             ));
         }
     }
@@ -174,20 +182,22 @@ fn gather(receiver: &Receiver<Outcome>, queue: &Queue) -> Result<(Tally, Found),
     }
 }
 
-/// Shortens the drill of a seed, writes it and shows it.
+/// Shortens the input of a seed, writes it and shows it.
 fn show(
     options: &Options,
-    program: &Program,
+    both: &Match,
     desk: &Desk,
     seed: u64,
     first: &Difference,
 ) -> Result<(), String> {
+    let subject = both.subject;
     tell(format!("seed {seed} differs in line {}", first.line));
-    tell(first.shown());
-    let drill = Drill::of(seed);
+    tell(first.shown(subject.word()));
+    let script = subject.make(seed);
     let mut last = first.clone();
-    let shortened = shorten(&drill, first.line, |candidate| {
-        let outcome = one_drill(program, desk, candidate)?;
+    let read = subject.records_read(&script, first.line);
+    let shortened = shorten(&script, read, |candidate| {
+        let outcome = both.play(desk, candidate)?;
         let differs = outcome.is_err();
         if let Err(difference) = outcome {
             last = difference;
@@ -197,38 +207,25 @@ fn show(
     let short = shortened.unwrap_or_else(|problem| {
         tell(format!("not shortened: {problem}"));
         last = first.clone();
-        drill.clone()
+        script.clone()
     });
-    let text = text_of(&short);
-    let file = keep(options, seed, &text)?;
+    let (content, holds) = subject.kept(&short);
+    let name = format!("seed-{seed}.{}", subject.word());
+    let file = keep(options, &name, &content)?;
     tell(format!(
         "shortened from {} to {} records, differs in line {}",
-        drill.records.len(),
+        script.records.len(),
         short.records.len(),
         last.line
     ));
-    tell(last.shown());
-    tell(format!(
-        "written to {}, with the model's lines",
-        file.display()
-    ));
-    tell(text.trim_end());
+    tell(last.shown(subject.word()));
+    tell(format!("written to {}, {holds}", file.display()));
+    tell(subject.words(&short).trim_end());
     Ok(())
 }
 
-/// A drill as text, with the lines that the model says to it.
-fn text_of(drill: &Drill) -> String {
-    let bytes = drill.bytes();
-    let plain = writing::text(&bytes);
-    match Text::read(plain.as_bytes()) {
-        Ok(text) => accept(&text, &String::from_utf8_lossy(&say::<RIGHT>(&bytes))).source,
-        // A drill that no text can hold is too long to be read.
-        Err(_) => plain,
-    }
-}
-
-/// Writes the text of a seed's drill where it was asked for.
-fn keep(options: &Options, seed: u64, text: &str) -> Result<PathBuf, String> {
+/// Writes what is kept where it was asked for.
+fn keep(options: &Options, name: &str, content: &[u8]) -> Result<PathBuf, String> {
     let directory = match &options.keep {
         Some(directory) => {
             let path = Path::new(directory);
@@ -237,7 +234,7 @@ fn keep(options: &Options, seed: u64, text: &str) -> Result<PathBuf, String> {
         }
         None => fresh_directory("compare-kept")?,
     };
-    let file = directory.join(format!("seed-{seed}.drill"));
-    fs::write(&file, text).map_err(|error| cannot("write", &file, &error))?;
+    let file = directory.join(name);
+    fs::write(&file, content).map_err(|error| cannot("write", &file, &error))?;
     Ok(file)
 }

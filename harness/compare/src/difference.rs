@@ -34,15 +34,16 @@ impl Difference {
         None
     }
 
-    /// Both lines, to be shown.
-    pub fn shown(&self) -> String {
+    /// Both lines, to be shown; the word is that of what the other program was run on.
+    pub fn shown(&self, word: &str) -> String {
         let text = |line: &Option<String>| match line {
             Some(line) => line.clone(),
             None => "(no line)".to_string(),
         };
         format!(
-            "  model: {}\n  drill: {}",
+            "  model: {}\n  {:<6} {}",
             text(&self.model),
+            format!("{word}:"),
             text(&self.other)
         )
     }

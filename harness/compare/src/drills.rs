@@ -1,54 +1,106 @@
 //! The drill of a seed: settings, scenes on a ring, and one of several ends.
 
-use text::records::{self, Bytes, LONGEST};
+use model::faults::Fault;
+use text::accepting::accept;
+use text::program::RUN;
+use text::reading::Text;
+use text::records::Bytes;
+use text::source::{Source, WORKED};
+use text::writing;
 
 use crate::chance::Chance;
 use crate::maker::Maker;
-use crate::plan::{self, Plan};
+use crate::opening::{self, Opening};
 use crate::scenes;
+use crate::script::{end, Script};
+use crate::subject::{right, Subject};
+use crate::tally::{Tally, OTHER};
 use crate::wild;
 
-/// A drill as the settings and the records behind them; any of them may be damaged.
-#[derive(Clone, Debug, PartialEq, Eq)]
-pub struct Drill {
-    /// The first bytes.
-    pub settings: Bytes,
-    /// What follows them, one piece for each record.
-    pub records: Vec<Bytes>,
-}
+/// The drill program on drills.
+pub struct Drills;
 
-impl Drill {
-    /// The drill of this seed, the same on every machine.
-    pub fn of(seed: u64) -> Drill {
-        let mut chance = Chance::new(seed);
-        let refused = chance.percent(6);
-        let budget = match chance.below(10) {
-            0 => chance.range(50, 200),
-            1..=6 => chance.range(300, 1_200),
-            _ => chance.range(1_200, 2_500),
-        };
-        if refused {
-            let settings = plan::refused(&mut chance);
-            return play(chance, 30, Some(settings));
+impl Subject for Drills {
+    fn word(&self) -> &'static str {
+        "drill"
+    }
+
+    fn command(&self) -> &'static str {
+        RUN
+    }
+
+    fn make(&self, seed: u64) -> Script {
+        drill(seed)
+    }
+
+    fn probe(&self) -> Result<(&'static str, Bytes), String> {
+        let name = "the worked drill";
+        Ok((name, Source::of(name, WORKED.to_vec())?.bytes()))
+    }
+
+    fn read(&self, file: &str) -> Result<Bytes, String> {
+        Ok(Source::read(file)?.bytes())
+    }
+
+    fn model(&self, fault: Fault) -> fn(&[u8]) -> Vec<u8> {
+        fault.drill()
+    }
+
+    fn faults(&self) -> &'static [Fault] {
+        Fault::OF_DRILL
+    }
+
+    fn nothing(&self) -> Tally {
+        Tally::new(self.word(), &LABELS)
+    }
+
+    fn count(&self, _: &[u8], said: &[u8]) -> Tally {
+        tally(said)
+    }
+
+    /// Each record has its line.
+    fn records_read(&self, _: &Script, line: usize) -> usize {
+        line
+    }
+
+    fn words(&self, script: &Script) -> String {
+        let bytes = script.bytes();
+        let plain = writing::text(&bytes);
+        match Text::read(plain.as_bytes()) {
+            Ok(text) => accept(&text, &String::from_utf8_lossy(&right(self, &bytes))).source,
+            // A drill that no text can hold is too long to be read.
+            Err(_) => plain,
         }
-        play(chance, budget, None)
     }
 
-    /// All bytes of the drill.
-    pub fn bytes(&self) -> Bytes {
-        let mut bytes = self.settings.clone();
-        bytes.extend(self.records.iter().flatten());
-        bytes
+    fn kept(&self, script: &Script) -> (Bytes, &'static str) {
+        (self.words(script).into_bytes(), "with the model's lines")
     }
 }
 
-/// Plays scenes until there are enough records. Empty settings end the input at once.
-fn play(mut chance: Chance, budget: usize, settings: Option<Bytes>) -> Drill {
-    let plan = Plan::new(&mut chance);
+/// The drill of this seed.
+fn drill(seed: u64) -> Script {
+    let mut chance = Chance::new(seed);
+    let refused = chance.percent(6);
+    let budget = match chance.below(10) {
+        0 => chance.range(50, 200),
+        1..=6 => chance.range(300, 1_200),
+        _ => chance.range(1_200, 2_500),
+    };
+    if refused {
+        let settings = opening::refused(&mut chance);
+        return play(chance, 30, Some(settings));
+    }
+    play(chance, budget, None)
+}
+
+/// Plays scenes until there are enough records.
+fn play(mut chance: Chance, budget: usize, settings: Option<Bytes>) -> Script {
+    let opening = Opening::new(&mut chance);
     let small = chance.range(2, 8);
     let large = chance.range(9, 63);
     let stations = chance.pick(&[small, small, small, 1, large]);
-    let mut maker = Maker::new(chance, plan, stations);
+    let mut maker = Maker::new(chance, opening, stations);
     while maker.records.len() < budget {
         match maker.chance.below(10) {
             0..=3 => maker.restore(),
@@ -58,50 +110,61 @@ fn play(mut chance: Chance, budget: usize, settings: Option<Bytes>) -> Drill {
         let scene = scenes::any(&mut maker.chance);
         scene(&mut maker);
     }
-    end(&mut maker);
-    let settings = settings.unwrap_or_else(|| maker.plan.bytes());
-    let records = if settings.is_empty() {
-        Vec::new()
-    } else {
-        maker.records
-    };
-    Drill { settings, records }
+    end(&mut maker, wild::event, Maker::ask_around);
+    Script::made(maker, settings)
 }
 
-/// Input stops between records, within one, or goes on behind a length that ends the drill.
-fn end(m: &mut Maker) {
-    match m.chance.below(10) {
-        0..=2 => {
-            let mut record = last_record(m);
-            let left = m.chance.range(1, record.len() - 1);
-            record.truncate(left);
-            m.give(record);
-        }
-        3 => {
-            let length = m.chance.pick(&[0_u16, 1, 1_034, 1_035, 4_096, 65_535]);
-            let mut record = last_record(m);
-            record[..2].copy_from_slice(&length.to_le_bytes());
-            m.give(record);
-            m.ask_around();
-        }
-        4 => {
-            // Bytes without any order, which may or may not look like records.
-            let count = m.chance.range(1, 60);
-            let bytes = (0..count).map(|_| m.chance.pick(&[0, 0, 0, 1, 2, 3, 4]));
-            let tail = bytes.collect();
-            m.give(tail);
-        }
-        _ => {}
-    }
-}
+/// What is counted: results of full lines, replies, refused settings, ends, and more.
+const LABELS: [&str; 22] = [
+    "result 0",
+    "result 3",
+    "result 4",
+    "result 5",
+    "result 6",
+    "result 7",
+    "result 8",
+    "result 20",
+    "result 21",
+    "result 22",
+    "result 23",
+    "result 24",
+    "way 0",
+    "way 1",
+    "way 2",
+    "way 3",
+    "settings 2",
+    "settings 3",
+    "settings 4",
+    END,
+    REFUSED_QUESTION,
+    REPORTS,
+];
+const END: &str = "end 'n 2'";
+const REFUSED_QUESTION: &str = "question 4";
+const REPORTS: &str = "reports";
 
-/// Some record, now and then one of the longest.
-fn last_record(m: &mut Maker) -> Bytes {
-    if m.chance.percent(15) {
-        let kind = m.chance.pick(&[5, 6, 40, 99]);
-        return records::record(kind, &vec![0; LONGEST - 2]);
+/// The counts of one drill.
+fn tally(said: &[u8]) -> Tally {
+    let mut tally = Drills.nothing();
+    tally.inputs = 1;
+    for line in String::from_utf8_lossy(said).lines() {
+        tally.lines += 1;
+        let fields: Vec<&str> = line.split(' ').collect();
+        match fields[..] {
+            ["settings", refusal] => tally.count(&format!("settings {refusal}")),
+            [_, "2"] => tally.count(END),
+            [_, "4"] => tally.count(REFUSED_QUESTION),
+            [_, "way", reply] => tally.count(&format!("way {reply}")),
+            [_, result, _, _, _, _, report] => {
+                tally.count(&format!("result {result}"));
+                if report == "1" {
+                    tally.count(REPORTS);
+                }
+            }
+            _ => tally.count(OTHER),
+        }
     }
-    wild::event(m)
+    tally
 }
 
 #[cfg(test)]
@@ -111,23 +174,22 @@ mod tests {
     use model::drill::say;
     use model::faults::RIGHT;
     use model::Node;
-    use text::reading::Text;
     use text::record::Record;
+    use text::records::LONGEST;
     use text::source::is_bytes;
     use text::stations::{follow, without_operators, Stay};
     use text::told::play;
-    use text::writing;
 
     use super::*;
 
     #[test]
     fn a_seed_gives_one_drill() {
-        assert_eq!(Drill::of(17), Drill::of(17));
-        assert_ne!(Drill::of(17), Drill::of(18));
+        assert_eq!(drill(17), drill(17));
+        assert_ne!(drill(17), drill(18));
     }
 
     fn same_text(seed: u64) {
-        let bytes = Drill::of(seed).bytes();
+        let bytes = drill(seed).bytes();
         let written = writing::text(&bytes);
         let text = Text::read(written.as_bytes()).unwrap();
         assert!(text.bytes() == bytes, "seed {seed}");
@@ -168,7 +230,7 @@ mod tests {
 
     fn same_stations(seed: u64) {
         let told = |bytes: &[u8]| play(bytes, &String::from_utf8(say::<RIGHT>(bytes)).unwrap());
-        let played = told(&Drill::of(seed).bytes());
+        let played = told(&drill(seed).bytes());
         let quiet = told(&without_operators(&played));
         let stays = follow(&played, &quiet).unwrap();
         let first = played
@@ -197,13 +259,26 @@ mod tests {
     #[test]
     fn records_are_whole_up_to_the_last() {
         for seed in 0..50 {
-            let drill = Drill::of(seed);
-            let whole = drill.records.len().saturating_sub(65);
-            for record in &drill.records[..whole] {
+            let script = drill(seed);
+            let whole = script.records.len().saturating_sub(65);
+            for record in &script.records[..whole] {
                 let length = u16::from_le_bytes([record[0], record[1]]);
                 assert_eq!(usize::from(length) + 2, record.len());
                 assert!(usize::from(length) <= LONGEST);
             }
         }
+    }
+
+    #[test]
+    fn each_sort_of_line_has_its_count() {
+        let said = b"1 0 4 0 1 0 1\n2 way 3\n3 4\n4 22 0 0 1 0 0\n5 2\n";
+        let mut sum = tally(said);
+        sum.add(&tally(b"settings 4\n"));
+        sum.add(&tally(b"1 1 0 0 0 0 0\nwhat\n"));
+        assert_eq!((sum.inputs, sum.lines), (3, 8));
+        assert_eq!((sum.of("result 0"), sum.of("result 22")), (1, 1));
+        assert_eq!((sum.of("way 3"), sum.of("settings 4")), (1, 1));
+        assert_eq!((sum.of(END), sum.of(REFUSED_QUESTION)), (1, 1));
+        assert_eq!((sum.of(REPORTS), sum.of(OTHER)), (1, 2));
     }
 }

@@ -1,5 +1,5 @@
-//! Compares the model with the proved drill program, on drills that a seed makes.
-//! It stops at the first line that differs and writes a shortened drill that still differs.
+//! Compares the model with the proved programs: the drill program on drills, the planner's on plans, all made from seeds.
+//! It stops at the first line that differs and writes a shortened drill or plan that still differs.
 //! `--self-test` shows that wrong models are found; `--help` lists the options.
 
 mod acceptance;
@@ -9,26 +9,30 @@ mod contest;
 mod difference;
 mod drills;
 mod maker;
+mod opening;
 mod options;
-mod plan;
+mod plans;
+mod probe;
 mod ring;
 mod scenes;
+mod script;
 mod selftest;
 mod shorten;
+mod subject;
 mod tally;
 mod voice;
 mod wild;
-mod worked;
 
 use std::env;
 use std::io::{self, Write};
 use std::process::ExitCode;
 
 use model::faults::Fault;
-use text::source::Source;
 
-use crate::drills::Drill;
+use crate::drills::Drills;
 use crate::options::{Options, Task, USAGE};
+use crate::plans::Plans;
+use crate::subject::Subject;
 use crate::voice::{tell, warn};
 
 /// A line differs, or a wrong model was not found.
@@ -57,12 +61,13 @@ fn main() -> ExitCode {
 }
 
 fn perform(options: &Options) -> Result<bool, String> {
+    let subject: &dyn Subject = if options.plans { &Plans } else { &Drills };
     match &options.task {
-        Task::Compare => contest::contest(options),
+        Task::Compare => contest::contest(subject, options),
         Task::SelfTest => Ok(selftest::self_test(options)),
-        Task::As(fault, file) => speak_as(fault, file),
+        Task::As(fault, file) => speak_as(subject, fault, file),
         Task::Accept(files) => acceptance::accept_all(files),
-        Task::Make(seed) => write_out(&Drill::of(*seed).bytes()),
+        Task::Make(seed) => write_out(&subject.make(*seed).bytes()),
         Task::Help => {
             tell(USAGE);
             Ok(true)
@@ -70,10 +75,10 @@ fn perform(options: &Options) -> Result<bool, String> {
     }
 }
 
-/// Says what a model says to a drill in a file.
-fn speak_as(name: &str, file: &str) -> Result<bool, String> {
+/// Says what a model says to a drill or a plan in a file.
+fn speak_as(subject: &dyn Subject, name: &str, file: &str) -> Result<bool, String> {
     let fault = Fault::named(name).ok_or(format!("no fault is called '{name}'"))?;
-    write_out(&fault.drill()(&Source::read(file)?.bytes()))
+    write_out(&subject.model(fault)(&subject.read(file)?))
 }
 
 fn write_out(bytes: &[u8]) -> Result<bool, String> {

@@ -4,7 +4,7 @@
 use text::records::{self, Bytes, Report};
 
 use crate::chance::Chance;
-use crate::plan::Plan;
+use crate::opening::Opening;
 use crate::ring::Ring;
 
 /// No span, or every span, hears keepalives.
@@ -15,7 +15,7 @@ pub struct Maker {
     /// Where all choices come from.
     pub chance: Chance,
     /// The settings of the drill.
-    pub plan: Plan,
+    pub opening: Opening,
     /// The ring as it is by now.
     pub ring: Ring,
     /// What has been given so far.
@@ -26,11 +26,11 @@ pub struct Maker {
 
 impl Maker {
     /// A drill on a ring of this many stations beside the own one.
-    pub fn new(mut chance: Chance, plan: Plan, stations: usize) -> Maker {
-        let ring = Ring::new(&mut chance, plan.settings.address, stations);
+    pub fn new(mut chance: Chance, opening: Opening, stations: usize) -> Maker {
+        let ring = Ring::new(&mut chance, opening.settings.address, stations);
         Maker {
             chance,
-            plan,
+            opening,
             ring,
             records: Vec::new(),
             silent: [0; 2],
@@ -56,7 +56,7 @@ impl Maker {
     pub fn ticks(&mut self, count: usize, deaf: [bool; 2]) {
         for _ in 0..count {
             for (span, deaf) in deaf.into_iter().enumerate() {
-                let late = self.silent[span] + 1 >= u32::from(self.plan.settings.keepalive);
+                let late = self.silent[span] + 1 >= u32::from(self.opening.settings.keepalive);
                 if late && !deaf {
                     self.give(records::keepalive(span as u8));
                 }

@@ -12,18 +12,19 @@ const MOST_JOBS: usize = 64;
 
 /// How to call the program.
 pub const USAGE: &str = "\
-usage: compare [--from SEED] [--count N] [--seconds T] [--jobs J] [--drill CMD] [--keep DIR]
+usage: compare [--plans] [--from SEED] [--count N] [--seconds T] [--jobs J] [--drill CMD] [--keep DIR]
        compare --self-test [--from SEED] [--count N]
-       compare --make SEED
-       compare --as FAULT FILE
+       compare [--plans] --make SEED
+       compare [--plans] --as FAULT FILE
        compare --accept FILE..
+  --plans        plans and the planner's program, in place of drills and the drill program
   --from SEED    first seed (1)
   --count N      so many drills (2000, or no end with --seconds)
   --seconds T    new drills for so long
   --jobs J       drills at a time (the cores, at most 2)
-  --drill CMD    runs a drill; its path becomes the last argument (drills/run here or above)
+  --drill CMD    runs a drill; its path becomes the last argument (drills/run here or above; drills/plan for plans)
   --keep DIR     where a differing drill is written (a new temporary directory)
-  --self-test    every wrong model must be found within N drills (300)
+  --self-test    every wrong model must be found within N drills, or N plans if it is one of the planner (300)
   --make SEED    writes the drill of a seed to standard output
   --as FAULT     says what the model with this fault says to FILE; 'nothing' is the right model
   --accept       writes the model's lines into texts; lines marked as worked out by hand stay, and are told
@@ -51,6 +52,8 @@ pub enum Task {
 pub struct Options {
     /// What to do.
     pub task: Task,
+    /// With plans, not with drills.
+    pub plans: bool,
     /// The first seed.
     pub from: u64,
     /// So many drills at most.
@@ -70,6 +73,7 @@ impl Options {
         let cores = thread::available_parallelism().map_or(1, usize::from);
         Options {
             task: Task::Compare,
+            plans: false,
             from: 1,
             count: None,
             time: None,
@@ -86,12 +90,18 @@ impl Options {
         while let Some(name) = rest.next() {
             options.take(&name, &mut rest)?;
         }
-        Ok(options)
+        match options.task {
+            Task::SelfTest | Task::Accept(_) if options.plans => {
+                Err("--plans does not go with --self-test or --accept".to_string())
+            }
+            _ => Ok(options),
+        }
     }
 
     fn take(&mut self, name: &str, rest: &mut impl Iterator<Item = String>) -> Result<(), String> {
         let mut value = || rest.next().ok_or(format!("{name} needs a value"));
         match name {
+            "--plans" => self.plans = true,
             "--from" => self.from = number(name, &value()?)?,
             "--count" => self.count = Some(number(name, &value()?)?),
             "--seconds" => self.time = Some(Duration::from_secs(number(name, &value()?)?)),
@@ -148,6 +158,9 @@ mod tests {
         assert_eq!(read("--seconds 4").unwrap().end(), u64::MAX);
         assert_eq!(read("").unwrap().end(), 1 + USUAL_COUNT);
         assert_eq!(read("--self-test").unwrap().task, Task::SelfTest);
+        let plan = read("--make 7 --plans").unwrap();
+        assert_eq!((plan.task, plan.plans), (Task::Make(7), true));
+        assert!(!options.plans);
     }
 
     #[test]
@@ -159,6 +172,8 @@ mod tests {
             "--jobs 65",
             "what",
             "--as x",
+            "--plans --self-test",
+            "--plans --accept x",
         ] {
             assert!(read(line).is_err(), "{line}");
         }

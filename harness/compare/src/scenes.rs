@@ -36,19 +36,11 @@ const SCENES: [(usize, Scene); 18] = [
 
 /// Any scene, by how often each should come.
 pub fn any(chance: &mut Chance) -> Scene {
-    let all = SCENES.iter().map(|(weight, _)| weight).sum();
-    let mut left = chance.below(all);
-    for (weight, scene) in SCENES {
-        if left < weight {
-            return scene;
-        }
-        left -= weight;
-    }
-    learn
+    chance.weighted(&SCENES)
 }
 
 /// The ring is heard, one way or both, whole or with a gap, and changes here and there.
-fn learn(m: &mut Maker) {
+pub fn learn(m: &mut Maker) {
     let ways = m.chance.pick(&[1, 2, 3, 3, 3]);
     for ringlet in (0..2).filter(|ringlet| ways & (1 << ringlet) != 0) {
         m.announce(ringlet);
@@ -90,7 +82,7 @@ fn hop_near(chance: &mut Chance, right: usize, members: usize) -> usize {
 }
 
 /// Reports with sequences of every distance, copies with other requests, hops that move.
-fn quarrel(m: &mut Maker) {
+pub fn quarrel(m: &mut Maker) {
     for _ in 0..m.chance.range(8, 50) {
         let at = m.ring.any(&mut m.chance);
         let ringlet = m.span();
@@ -118,7 +110,7 @@ fn quarrel(m: &mut Maker) {
 }
 
 /// Two members change seats, one leaves, or a stranger comes between.
-fn displace(m: &mut Maker) {
+pub fn displace(m: &mut Maker) {
     for _ in 0..m.chance.range(2, 8) {
         let at = m.ring.any(&mut m.chance);
         let other = m.ring.any(&mut m.chance);
@@ -149,12 +141,12 @@ fn displace(m: &mut Maker) {
 }
 
 /// Links go bad and good again, with a few ticks between.
-fn flap(m: &mut Maker) {
+pub fn flap(m: &mut Maker) {
     for _ in 0..m.chance.range(4, 20) {
         let span = m.span();
         let status = m.chance.pick(&[0, 0, 1, 1, 2]);
         m.link(span, status);
-        let most = 2 + 10 * usize::from(m.plan.settings.hold_off.min(3));
+        let most = 2 + 10 * usize::from(m.opening.settings.hold_off.min(3));
         let ticks = m.chance.below(most);
         m.ticks(ticks, NONE_DEAF);
         match m.chance.below(4) {
@@ -189,10 +181,10 @@ fn operate(m: &mut Maker) {
 }
 
 /// A span, or both, hear no keepalives for about as long as the setting says.
-fn silence(m: &mut Maker) {
+pub fn silence(m: &mut Maker) {
     for _ in 0..m.chance.range(1, 4) {
         let deaf = m.chance.pick(&[[true, false], [false, true], [true, true]]);
-        let about = usize::from(m.plan.settings.keepalive);
+        let about = usize::from(m.opening.settings.keepalive);
         let ticks = (about + m.chance.below(4)).saturating_sub(2);
         m.ticks(ticks, deaf);
         let span = m.span();
@@ -217,7 +209,7 @@ fn silence(m: &mut Maker) {
 }
 
 /// A neighbour heard on the wrong span marks the cable; only a right neighbour clears it.
-fn cross(m: &mut Maker) {
+pub fn cross(m: &mut Maker) {
     for _ in 0..m.chance.range(2, 10) {
         let span = m.span();
         let neighbour = m.ring.at_hop(1, span);
@@ -259,7 +251,7 @@ fn while_crossed(m: &mut Maker, span: usize) {
 }
 
 /// All 63 places are taken on one ringlet; then newcomers and second hops come.
-fn fill(m: &mut Maker) {
+pub fn fill(m: &mut Maker) {
     let ringlet = m.span();
     m.ring.grow(&mut m.chance, LARGEST);
     m.heal();
@@ -320,7 +312,7 @@ fn crossed_newcomer(m: &mut Maker, ringlet: usize) {
 }
 
 /// Long runs of ticks are rare, and the longest settings are never waited for.
-fn affordable(chance: &mut Chance, ticks: usize) -> bool {
+pub fn affordable(chance: &mut Chance, ticks: usize) -> bool {
     ticks <= 1_000
         || (ticks <= 2_000 && chance.percent(50))
         || (ticks <= 10_000 && chance.percent(8))
@@ -328,11 +320,11 @@ fn affordable(chance: &mut Chance, ticks: usize) -> bool {
 
 /// WTR runs out, or is broken off, with operator requests above it.
 fn wait(m: &mut Maker) {
-    let all = 1_000 * usize::from(m.plan.settings.wtr);
+    let all = 1_000 * usize::from(m.opening.settings.wtr);
     let span = m.span();
     let bad = m.chance.pick(&[1, 2]);
     m.link(span, bad);
-    let hold_off = 10 * usize::from(m.plan.settings.hold_off);
+    let hold_off = 10 * usize::from(m.opening.settings.hold_off);
     m.ticks(hold_off, NONE_DEAF);
     m.link(span, 0);
     if !affordable(&mut m.chance, all) {
@@ -369,7 +361,7 @@ fn above_wtr(m: &mut Maker, span: usize) {
 
 /// Members are heard, then most fall silent until they are forgotten.
 fn forget(m: &mut Maker) {
-    let all = 100 * usize::from(m.plan.settings.forget);
+    let all = 100 * usize::from(m.opening.settings.forget);
     if !affordable(&mut m.chance, all) {
         return learn(m);
     }
@@ -390,7 +382,7 @@ fn forget(m: &mut Maker) {
 }
 
 /// Something is heard of a member: some of it renews its age, some does not.
-fn renew(m: &mut Maker) {
+pub fn renew(m: &mut Maker) {
     let at = m.ring.any(&mut m.chance);
     let ringlet = m.span();
     let mut report = m.ring.report(at, ringlet);
@@ -413,8 +405,8 @@ fn renew(m: &mut Maker) {
 
 /// Ticks enough for the eight fast reports and slow ones, with a change somewhere.
 fn pace(m: &mut Maker) {
-    let fast = usize::from(m.plan.settings.fast);
-    let mut slow = 50 * usize::from(m.plan.settings.slow);
+    let fast = usize::from(m.opening.settings.fast);
+    let mut slow = 50 * usize::from(m.opening.settings.slow);
     if !affordable(&mut m.chance, 3 * slow) {
         slow = 50;
     }
@@ -431,14 +423,14 @@ fn pace(m: &mut Maker) {
     if m.chance.percent(50) {
         // The change comes within a tick: a span falls silent, and fast ones follow.
         let deaf = m.chance.pick(&[[true, false], [false, true]]);
-        let ticks = usize::from(m.plan.settings.keepalive) + 3 * fast;
+        let ticks = usize::from(m.opening.settings.keepalive) + 3 * fast;
         m.ticks(ticks, deaf);
     }
 }
 
 /// Link statuses that come, change and go while hold-off runs.
 fn hold(m: &mut Maker) {
-    let all = 10 * usize::from(m.plan.settings.hold_off);
+    let all = 10 * usize::from(m.opening.settings.hold_off);
     if all == 0 {
         return flap(m);
     }
@@ -468,12 +460,12 @@ fn wrap(m: &mut Maker) {
 }
 
 /// Blocks of every sort for members, and some for stations that are not there.
-fn block_round(m: &mut Maker) {
+pub fn block_round(m: &mut Maker) {
     for _ in 0..m.chance.range(10, 40) {
         let span = m.span() as u8;
         let at = m.ring.any(&mut m.chance);
         let address = match m.chance.below(20) {
-            0 => m.plan.settings.address,
+            0 => m.opening.settings.address,
             1 => m.ring.free_address(&mut m.chance),
             2 => m.ring.members[at].address | 1 << 40,
             _ => m.ring.members[at].address,

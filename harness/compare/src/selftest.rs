@@ -1,29 +1,33 @@
-//! The self-test: each wrong model must be found by the same drills, in-process.
+//! The self-test: each wrong model must be found by the same drills and plans, in-process.
 
-use model::drill::say;
-use model::faults::{Fault, RIGHT};
+use model::faults::Fault;
 
 use crate::difference::Difference;
-use crate::drills::Drill;
+use crate::drills::Drills;
 use crate::options::Options;
+use crate::plans::Plans;
+use crate::script::Script;
 use crate::shorten::shorten;
+use crate::subject::{right, Subject};
 use crate::voice::tell;
 
-/// Drills within which every fault has to be found.
+/// Drills or plans within which every fault has to be found.
 const USUAL_COUNT: u64 = 300;
 
 /// The search for one wrong model.
-struct Search {
+struct Search<'a> {
+    subject: &'a dyn Subject,
     fault: Fault,
-    /// Drills that show it.
+    /// Inputs that show it.
     hits: u64,
     /// The first of them: seed and line.
     first: Option<(u64, usize)>,
 }
 
-impl Search {
-    fn new(fault: Fault) -> Search {
+impl Search<'_> {
+    fn new(subject: &dyn Subject, fault: Fault) -> Search<'_> {
         Search {
+            subject,
             fault,
             hits: 0,
             first: None,
@@ -31,7 +35,8 @@ impl Search {
     }
 
     fn look(&mut self, seed: u64, bytes: &[u8], right: &[u8]) {
-        if let Some(difference) = Difference::between(right, &self.fault.drill()(bytes)) {
+        let wrong = self.subject.model(self.fault)(bytes);
+        if let Some(difference) = Difference::between(right, &wrong) {
             self.hits += 1;
             self.first.get_or_insert((seed, difference.line));
         }
@@ -41,9 +46,11 @@ impl Search {
     fn report(&self, count: u64) -> String {
         let (name, what) = self.fault.words();
         let Some((seed, line)) = self.first else {
-            return format!("{name:<23} NOT FOUND in {count} drills  ({what})");
+            let word = self.subject.word();
+            return format!("{name:<23} NOT FOUND in {count} {word}s  ({what})");
         };
-        let length = shortened(self.fault, seed, line).records.len();
+        let short = shortened(self.subject, self.fault, seed, line);
+        let length = short.records.len();
         format!(
             "{name:<23} seed {seed:<3} line {line:<4} shortened to {length:>4} records, shown by {:>3} of {count}  ({what})",
             self.hits
@@ -54,14 +61,8 @@ impl Search {
 /// Looks for every fault; true if all are found.
 pub fn self_test(options: &Options) -> bool {
     let count = options.count.unwrap_or(USUAL_COUNT);
-    let mut searches: Vec<Search> = Fault::ALL.iter().copied().map(Search::new).collect();
-    for seed in options.from..options.from.saturating_add(count) {
-        let bytes = Drill::of(seed).bytes();
-        let right = say::<RIGHT>(&bytes);
-        for search in &mut searches {
-            search.look(seed, &bytes, &right);
-        }
-    }
+    let mut searches = searched(&Drills, options.from, count);
+    searches.extend(searched(&Plans, options.from, count));
     for search in &searches {
         tell(search.report(count));
     }
@@ -71,12 +72,27 @@ pub fn self_test(options: &Options) -> bool {
     found == searches.len()
 }
 
-/// The drill of a seed, without the records that a fault does not need.
-fn shortened(fault: Fault, seed: u64, line: usize) -> Drill {
-    let drill = Drill::of(seed);
-    let differs = |drill: &Drill| {
-        let bytes = drill.bytes();
-        Ok::<bool, ()>(say::<RIGHT>(&bytes) != fault.drill()(&bytes))
+/// Looks for the faults that the inputs of a subject have to show.
+fn searched(subject: &dyn Subject, from: u64, count: u64) -> Vec<Search<'_>> {
+    let faults = subject.faults().iter();
+    let mut searches: Vec<Search> = faults.map(|&fault| Search::new(subject, fault)).collect();
+    for seed in from..from.saturating_add(count) {
+        let bytes = subject.make(seed).bytes();
+        let right = right(subject, &bytes);
+        for search in &mut searches {
+            search.look(seed, &bytes, &right);
+        }
+    }
+    searches
+}
+
+/// The input of a seed, without the records that a fault does not need.
+fn shortened(subject: &dyn Subject, fault: Fault, seed: u64, line: usize) -> Script {
+    let script = subject.make(seed);
+    let differs = |script: &Script| {
+        let bytes = script.bytes();
+        Ok::<bool, ()>(right(subject, &bytes) != subject.model(fault)(&bytes))
     };
-    shorten(&drill, line, differs).unwrap_or(drill)
+    let read = subject.records_read(&script, line);
+    shorten(&script, read, differs).unwrap_or(script)
 }

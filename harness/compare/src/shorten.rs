@@ -1,20 +1,19 @@
-//! Shortens a drill that shows a difference: records are dropped as long as it still shows one.
+//! Shortens a script that shows a difference: records are dropped as long as it still shows one.
 
-use crate::drills::Drill;
+use crate::script::Script;
 
-/// Tries after which a drill is short enough; each may start a program.
+/// Tries after which a script is short enough; each may start a program.
 const MOST_TRIES: usize = 4_000;
 
-/// Drops records, larger runs first. `differs` says whether a drill shows a difference.
+/// Drops records, larger runs first. `differs` says whether a script shows a difference; so many records have been read when it does.
 /// An error of `differs` ends the search.
 pub fn shorten<E>(
-    drill: &Drill,
-    line: usize,
-    mut differs: impl FnMut(&Drill) -> Result<bool, E>,
-) -> Result<Drill, E> {
-    let mut short = drill.clone();
-    // Records behind the line have not been read when it is written.
-    let head = up_to(drill, line);
+    script: &Script,
+    read: usize,
+    mut differs: impl FnMut(&Script) -> Result<bool, E>,
+) -> Result<Script, E> {
+    let mut short = script.clone();
+    let head = up_to(script, read);
     if differs(&head)? {
         short = head;
     }
@@ -33,18 +32,18 @@ pub fn shorten<E>(
     }
 }
 
-fn up_to(drill: &Drill, line: usize) -> Drill {
-    let mut head = drill.clone();
-    head.records.truncate(line);
+fn up_to(script: &Script, read: usize) -> Script {
+    let mut head = script.clone();
+    head.records.truncate(read);
     head
 }
 
-/// One pass over the drill with runs of this many records.
+/// One pass over the script with runs of this many records.
 fn drop_runs<E>(
-    short: &mut Drill,
+    short: &mut Script,
     run: usize,
     tries: &mut usize,
-    differs: &mut impl FnMut(&Drill) -> Result<bool, E>,
+    differs: &mut impl FnMut(&Script) -> Result<bool, E>,
 ) -> Result<(), E> {
     // From the end: what comes last matters to fewer records.
     let mut end = short.records.len();
@@ -65,8 +64,8 @@ fn drop_runs<E>(
 mod tests {
     use super::*;
 
-    fn drill(records: impl IntoIterator<Item = u8>) -> Drill {
-        Drill {
+    fn script(records: impl IntoIterator<Item = u8>) -> Script {
+        Script {
             settings: vec![9],
             records: records.into_iter().map(|byte| vec![byte]).collect(),
         }
@@ -74,25 +73,25 @@ mod tests {
 
     #[test]
     fn only_the_records_that_matter_are_left() {
-        let whole = drill(0..200);
-        let both = |drill: &Drill| -> Result<bool, ()> {
-            let has = |byte| drill.records.contains(&vec![byte]);
+        let whole = script(0..200);
+        let both = |script: &Script| -> Result<bool, ()> {
+            let has = |byte| script.records.contains(&vec![byte]);
             Ok(has(3) && has(90) && has(91))
         };
         let short = shorten(&whole, 92, both).unwrap();
-        assert_eq!(short, drill([3, 90, 91]));
+        assert_eq!(short, script([3, 90, 91]));
     }
 
     #[test]
-    fn a_drill_that_never_differs_again_stays_whole() {
-        let whole = drill(0..9);
-        let never = |_: &Drill| -> Result<bool, ()> { Ok(false) };
+    fn a_script_that_never_differs_again_stays_whole() {
+        let whole = script(0..9);
+        let never = |_: &Script| -> Result<bool, ()> { Ok(false) };
         assert_eq!(shorten(&whole, 4, never).unwrap(), whole);
     }
 
     #[test]
     fn errors_end_the_search() {
-        let failing = |_: &Drill| Err::<bool, &str>("no");
-        assert_eq!(shorten(&drill(0..9), 4, failing), Err("no"));
+        let failing = |_: &Script| Err::<bool, &str>("no");
+        assert_eq!(shorten(&script(0..9), 4, failing), Err("no"));
     }
 }

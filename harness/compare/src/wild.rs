@@ -59,7 +59,7 @@ pub fn questions(m: &mut Maker) {
         let at = m.ring.any(&mut m.chance);
         let member = m.ring.members[at].address;
         match m.chance.below(8) {
-            0 => m.ask(m.plan.settings.address),
+            0 => m.ask(m.opening.settings.address),
             1 => {
                 let address = m.ring.free_address(&mut m.chance);
                 m.ask(address);
@@ -130,7 +130,7 @@ fn short_event(chance: &mut Chance) -> Bytes {
 fn address(m: &mut Maker) -> u64 {
     let at = m.ring.any(&mut m.chance);
     let any = match m.chance.below(8) {
-        0 | 1 => m.plan.settings.address,
+        0 | 1 => m.opening.settings.address,
         2 => m.ring.free_address(&mut m.chance),
         _ => m.ring.members[at].address,
     };

@@ -1,51 +1,16 @@
 //! The program as a whole: its exit status, what it leaves behind, and the drill it keeps.
 //! It plays the other program itself, right or with a fault, so no proved program is needed.
 
+mod place;
+
 use std::fs;
-use std::path::Path;
-use std::process::{Command, Output};
+use std::process::Command;
 
-use text::program::Room;
-
-const COMPARE: &str = env!("CARGO_BIN_EXE_compare");
-
-/// A directory of one test, removed at its end.
-struct Place(Room);
-
-impl Place {
-    fn new(test: &str) -> Place {
-        Place(Room::new(&format!("compare-test-{test}")).unwrap())
-    }
-
-    fn path(&self) -> &Path {
-        self.0.path()
-    }
-
-    fn is_empty(&self) -> bool {
-        fs::read_dir(self.path()).unwrap().next().is_none()
-    }
-
-    fn run(&self, arguments: &[&str]) -> Output {
-        Command::new(COMPARE)
-            .args(arguments)
-            .env("TMPDIR", self.path())
-            .current_dir(self.path())
-            .output()
-            .unwrap()
-    }
-}
+use place::{complained, said, Place, COMPARE};
 
 /// The command line of a program with a fault.
 fn program(fault: &str) -> String {
     format!("{COMPARE} --as {fault}")
-}
-
-fn said(output: &Output) -> String {
-    String::from_utf8_lossy(&output.stdout).into_owned()
-}
-
-fn complained(output: &Output) -> String {
-    String::from_utf8_lossy(&output.stderr).into_owned()
 }
 
 #[test]
@@ -168,16 +133,13 @@ fn bad_usage_is_2() {
 fn without_a_command_the_repository_is_searched() {
     let place = Place::new("search");
     // A temporary directory may lie below a repository; only then is there a command.
-    let above = place
-        .path()
-        .ancestors()
-        .any(|top| top.join("drills/run").is_file());
-    if !above {
+    if !place.is_below("drills/run") {
         let output = place.run(&["--count", "1"]);
         assert_eq!(output.status.code(), Some(2));
         assert!(complained(&output).contains("name a command with --drill"));
     }
-    write_script(place.path());
+    let right = format!("exec '{COMPARE}' --as nothing \"$1\"");
+    place.write_script("drills/run", &right);
     let deep = place.path().join("a/b");
     fs::create_dir_all(&deep).unwrap();
     let output = Command::new(COMPARE)
@@ -188,20 +150,12 @@ fn without_a_command_the_repository_is_searched() {
     assert_eq!(output.status.code(), Some(0), "{}", complained(&output));
 }
 
-/// A `drills/run` below a directory that speaks as the right model.
-fn write_script(top: &Path) {
-    use std::os::unix::fs::PermissionsExt;
-    fs::create_dir_all(top.join("drills")).unwrap();
-    let script = top.join("drills/run");
-    let text = format!("#!/bin/sh\nexec '{COMPARE}' --as nothing \"$1\"\n");
-    fs::write(&script, text).unwrap();
-    fs::set_permissions(&script, fs::Permissions::from_mode(0o755)).unwrap();
-}
-
 #[test]
-fn self_test_fails_if_there_are_too_few_drills() {
+fn self_test_fails_if_there_are_too_few_inputs() {
     let place = Place::new("self");
     let output = place.run(&["--self-test", "--count", "1"]);
     assert_eq!(output.status.code(), Some(1));
-    assert!(said(&output).contains("NOT FOUND in 1 drills"));
+    for word in ["drills", "plans"] {
+        assert!(said(&output).contains(&format!("NOT FOUND in 1 {word}")));
+    }
 }

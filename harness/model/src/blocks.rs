@@ -90,7 +90,7 @@ impl Progress {
             2 if level >= 2 || wrong::<F>(Fault::LevelIgnored) => {
                 let twice = self.bandwidths.is_some();
                 self.once::<F>(1, twice, entry)?;
-                self.bandwidths = Some(bandwidths(entry.value)?);
+                self.bandwidths = Some(bandwidths::<F>(entry.value)?);
             }
             0 if wrong::<F>(Fault::TypeZeroSkipped) => {}
             kind if entry.mandatory => {
@@ -127,10 +127,13 @@ fn weights(value: &[u8]) -> Option<[u8; 2]> {
     (!weights.contains(&0)).then_some(weights)
 }
 
-fn bandwidths(value: &[u8]) -> Option<[u16; 2]> {
+fn bandwidths<const F: u8>(value: &[u8]) -> Option<[u16; 2]> {
     let &[a, b, c, d] = value else {
         return None;
     };
+    if wrong::<F>(Fault::ReservedLowFirst) {
+        return Some([u16::from_le_bytes([a, b]), u16::from_le_bytes([c, d])]);
+    }
     Some([u16::from_be_bytes([a, b]), u16::from_be_bytes([c, d])])
 }
 

@@ -5,7 +5,10 @@
 pub const RIGHT: u8 = 0;
 
 macro_rules! faults {
-    ($($name:ident, $short:literal, $what:literal;)*) => {
+    (
+        drill { $($name:ident, $short:literal, $what:literal;)* }
+        planner { $($own_name:ident, $own_short:literal, $own_what:literal;)* }
+    ) => {
         /// One deliberate error. The numbers start after `RIGHT`.
         #[derive(Clone, Copy, Debug, PartialEq, Eq)]
         #[repr(u8)]
@@ -13,17 +16,21 @@ macro_rules! faults {
             /// Number 0 is the right model, so that no fault has it.
             Nothing = RIGHT,
             $(#[doc = $what] $name,)*
+            $(#[doc = $own_what] $own_name,)*
         }
 
         impl Fault {
-            /// Every fault, without `Nothing`.
-            pub const ALL: &'static [Fault] = &[$(Fault::$name),*];
+            /// The faults that a drill shows.
+            pub const OF_DRILL: &'static [Fault] = &[$(Fault::$name),*];
+            /// The faults that only a plan shows.
+            pub const OF_PLANNER: &'static [Fault] = &[$(Fault::$own_name),*];
 
             /// A short name, and what is wrong, in a few words.
             pub fn words(self) -> (&'static str, &'static str) {
                 match self {
                     Fault::Nothing => ("nothing", "the right model"),
                     $(Fault::$name => ($short, $what),)*
+                    $(Fault::$own_name => ($own_short, $own_what),)*
                 }
             }
 
@@ -32,6 +39,17 @@ macro_rules! faults {
                 match self {
                     Fault::Nothing => crate::drill::say::<RIGHT>,
                     $(Fault::$name => crate::drill::say::<{ Fault::$name as u8 }>,)*
+                    // No drill shows these.
+                    $(Fault::$own_name)|* => crate::drill::say::<RIGHT>,
+                }
+            }
+
+            /// The planner's program of the model with this fault.
+            pub fn planner(self) -> fn(&[u8]) -> Vec<u8> {
+                match self {
+                    Fault::Nothing => crate::planner::say::<RIGHT>,
+                    $(Fault::$name => crate::planner::say::<{ Fault::$name as u8 }>,)*
+                    $(Fault::$own_name => crate::planner::say::<{ Fault::$own_name as u8 }>,)*
                 }
             }
         }
@@ -39,50 +57,84 @@ macro_rules! faults {
 }
 
 faults! {
-    PlainSequences, "plain-sequences", "sequences compared as plain numbers";
-    Distance128Old, "distance-128-old", "distance 128 counted as old";
-    CopyDropped, "copy-dropped", "copy dropped before its hop is stored";
-    CopyTakesRequests, "copy-takes-requests", "requests of a copy stored";
-    OldReportRenews, "old-report-renews", "an old report sets the age to 0";
-    PlaceTestedFirst, "place-tested-first", "place tested before the displaced station has left";
-    DisplacedDespite23, "displaced-despite-23", "hop taken away although the newcomer gets 23";
-    CopyStandsBeside, "copy-stands-beside", "a copy does not displace the other station at its hop";
-    ForgetLate, "forget-late", "a station forgotten one tick late";
-    WtrLostUnderMs, "wtr-lost-under-ms", "WTR lost when MS comes";
-    WtrWaitsUnderMs, "wtr-waits-under-ms", "WTR does not go on beneath MS";
-    HoldOffNotAnew, "hold-off-not-anew", "running hold-off not started anew";
-    HoldOffForBetter, "hold-off-for-better", "failed to degraded waits for hold-off";
-    MarkStays, "mark-stays", "cable mark never cleared";
-    MarkUndone, "mark-undone", "cable mark as before if the report is old or has no place";
-    MarkTooLate, "mark-too-late", "span down tested with the mark as it was";
-    OperatorDown, "operator-down", "operator FS counted as span down";
-    PurgeBoth, "purge-both", "the purge takes the hops of both ringlets";
-    NotClosed, "not-closed", "closing steps left out after 20 to 24";
-    HopBeforeOwn, "hop-before-own", "hop above 63 tested before the own address";
-    UnknownBeforeDown, "unknown-before-down", "attributes: unknown station tested before span down";
-    AttributesRenew, "attributes-renew", "attributes set the age to 0";
-    MandatoryStops, "mandatory-stops", "an unknown mandatory entry stops the tests of the block";
-    TypeZeroSkipped, "type-zero-skipped", "mandatory type 0 skipped";
-    OptionalUntested, "optional-untested", "known types tested only if mandatory";
-    TwiceByMandatoryBit, "twice-by-mandatory-bit", "twice only if the mandatory bits are alike";
-    ReservedBitsRead, "reserved-bits-read", "reserved bits of the length read";
-    LevelIgnored, "level-ignored", "type 2 known at level 1";
-    TimerFallsOnChange, "timer-falls-on-change", "the timer falls in the tick of a change";
-    SlowLate, "slow-late", "timer set before the fast reports left fall";
-    SequenceStops, "sequence-stops", "own sequence stays at 255";
-    TargetFarEnd, "target-far-end", "the far end of the target counts";
-    OwnEndLeftOut, "own-end-left-out", "the own request left out of the way";
-    HopsFirst, "hops-first", "fewer hops before the lower request";
-    HopsIgnored, "hops-ignored", "of equal requests west, whatever the hops";
-    TieEast, "tie-east", "a tie goes east";
-    GapsAllowed, "gaps-allowed", "a lower hop that is not held does not matter";
+    drill {
+        PlainSequences, "plain-sequences", "sequences compared as plain numbers";
+        Distance128Old, "distance-128-old", "distance 128 counted as old";
+        CopyDropped, "copy-dropped", "copy dropped before its hop is stored";
+        CopyTakesRequests, "copy-takes-requests", "requests of a copy stored";
+        OldReportRenews, "old-report-renews", "an old report sets the age to 0";
+        PlaceTestedFirst, "place-tested-first", "place tested before the displaced station has left";
+        DisplacedDespite23, "displaced-despite-23", "hop taken away although the newcomer gets 23";
+        CopyStandsBeside, "copy-stands-beside", "a copy does not displace the other station at its hop";
+        ForgetLate, "forget-late", "a station forgotten one tick late";
+        WtrLostUnderMs, "wtr-lost-under-ms", "WTR lost when MS comes";
+        WtrWaitsUnderMs, "wtr-waits-under-ms", "WTR does not go on beneath MS";
+        HoldOffNotAnew, "hold-off-not-anew", "running hold-off not started anew";
+        HoldOffForBetter, "hold-off-for-better", "failed to degraded waits for hold-off";
+        MarkStays, "mark-stays", "cable mark never cleared";
+        MarkUndone, "mark-undone", "cable mark as before if the report is old or has no place";
+        MarkTooLate, "mark-too-late", "span down tested with the mark as it was";
+        OperatorDown, "operator-down", "operator FS counted as span down";
+        PurgeBoth, "purge-both", "the purge takes the hops of both ringlets";
+        NotClosed, "not-closed", "closing steps left out after 20 to 24";
+        HopBeforeOwn, "hop-before-own", "hop above 63 tested before the own address";
+        UnknownBeforeDown, "unknown-before-down", "attributes: unknown station tested before span down";
+        AttributesRenew, "attributes-renew", "attributes set the age to 0";
+        MandatoryStops, "mandatory-stops", "an unknown mandatory entry stops the tests of the block";
+        TypeZeroSkipped, "type-zero-skipped", "mandatory type 0 skipped";
+        OptionalUntested, "optional-untested", "known types tested only if mandatory";
+        TwiceByMandatoryBit, "twice-by-mandatory-bit", "twice only if the mandatory bits are alike";
+        ReservedBitsRead, "reserved-bits-read", "reserved bits of the length read";
+        LevelIgnored, "level-ignored", "type 2 known at level 1";
+        TimerFallsOnChange, "timer-falls-on-change", "the timer falls in the tick of a change";
+        SlowLate, "slow-late", "timer set before the fast reports left fall";
+        SequenceStops, "sequence-stops", "own sequence stays at 255";
+        TargetFarEnd, "target-far-end", "the far end of the target counts";
+        OwnEndLeftOut, "own-end-left-out", "the own request left out of the way";
+        HopsFirst, "hops-first", "fewer hops before the lower request";
+        HopsIgnored, "hops-ignored", "of equal requests west, whatever the hops";
+        TieEast, "tie-east", "a tie goes east";
+        GapsAllowed, "gaps-allowed", "a lower hop that is not held does not matter";
+    }
+    planner {
+        CountedPerRinglet, "counted-per-ringlet", "a station counted once for each ringlet that it is heard on";
+        CountedWhereHeard, "counted-where-heard", "a reservation counted only on a ringlet where the station has a hop";
+        GapNotCounted, "gap-not-counted", "only stations reached without a gap counted";
+        LastPlaceLeftOut, "last-place-left-out", "the station at the last of 63 places not counted";
+        ReservedSwapped, "reserved-swapped", "the stations' reservations on the two ringlets swapped";
+        ReservedLowFirst, "reserved-low-first", "reservations in a block read with the lowest byte first";
+        ReservedKept, "reserved-kept", "a block without reservations leaves those of the one before";
+        OwnReservedLeftOut, "own-reserved-left-out", "own reservations left out";
+        OwnReservedSwapped, "own-reserved-swapped", "own reservations on the two ringlets swapped";
+        SumInSixteenBits, "sum-in-sixteen-bits", "reservations summed in sixteen bits";
+        FreeNotBelowZero, "free-not-below-zero", "a number below zero given as 0";
+        DefectOnRinglet0, "defect-on-ringlet-0", "the defect tested on ringlet 0 alone";
+        DefectOnRinglet1, "defect-on-ringlet-1", "the defect tested on ringlet 1 alone";
+        DefectOnBoth, "defect-on-both", "the defect only if both ringlets have it";
+        DefectAtZero, "defect-at-zero", "exactly 0 is a defect";
+        HighestRateRefused, "highest-rate-refused", "link rate 65,535 refused";
+        RateCut, "rate-cut", "the low sixteen bits of a link rate taken, and none refused";
+        LevelBeforeRate, "level-before-rate", "32 tested before 4";
+        BehindBeforeLevel, "behind-before-level", "31 tested before 32";
+        BehindBeforeRate, "behind-before-rate", "31 tested before 4";
+        HighestBehind, "highest-behind", "31 with the highest address";
+        BehindPassedOver, "behind-passed-over", "a station that is behind passed over";
+        BehindNumbersGiven, "behind-numbers-given", "31, and numbers given";
+        BehindStays, "behind-stays", "behind although a later block was taken";
+        TypeZeroNotBehind, "type-zero-not-behind", "behind with type 0 taken for not behind";
+    }
 }
 
 impl Fault {
     /// The fault with this short name; `nothing` is one.
     pub fn named(short: &str) -> Option<Fault> {
-        let all = std::iter::once(&Fault::Nothing).chain(Fault::ALL);
-        all.copied().find(|fault| fault.words().0 == short)
+        let mut all = std::iter::once(Fault::Nothing).chain(Fault::all());
+        all.find(|fault| fault.words().0 == short)
+    }
+
+    /// Every fault, without `Nothing`.
+    pub fn all() -> impl Iterator<Item = Fault> {
+        Fault::OF_DRILL.iter().chain(Fault::OF_PLANNER).copied()
     }
 }
 
@@ -98,7 +150,7 @@ mod tests {
 
     #[test]
     fn names_are_unique_and_found() {
-        for &fault in Fault::ALL {
+        for fault in Fault::all() {
             assert_eq!(Fault::named(fault.words().0), Some(fault));
         }
         assert_eq!(Fault::named("nothing"), Some(Fault::Nothing));

@@ -1,6 +1,7 @@
-//! The node: start, one record at a time, steering, attributes.
+//! The node: start, one record at a time, steering, attributes, free bandwidth.
 //! Refusals 1 to 8 change nothing; after every other result the closing steps run.
 
+use crate::bandwidth::{self, Free};
 use crate::blocks::{self, Attributes, Reading};
 use crate::faults::{wrong, Fault, RIGHT};
 use crate::pacer::Pacer;
@@ -161,7 +162,7 @@ impl<const F: u8> NodeOf<F> {
         let Reading::Whole(attributes) = blocks::read::<F>(self.settings.level, block) else {
             return records::MALFORMED;
         };
-        station.attributes = attributes;
+        station.replace::<F>(attributes);
         if wrong::<F>(Fault::AttributesRenew) {
             station.age = 0;
         }
@@ -217,6 +218,11 @@ impl<const F: u8> NodeOf<F> {
                 ..nothing
             },
         }
+    }
+
+    /// What is free on each ringlet, for a link rate and the own reservations.
+    pub fn free_bandwidth(&self, rate: u32, own: [u16; 2]) -> Free {
+        bandwidth::free::<F>(&self.table, self.settings.level, rate, own)
     }
 
     /// The request on the west span.

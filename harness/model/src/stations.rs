@@ -206,6 +206,22 @@ impl Station {
             self.requests = report.requests;
         }
     }
+
+    /// A block that is not malformed replaces all attributes.
+    pub fn replace<const F: u8>(&mut self, attributes: Attributes) {
+        let before = std::mem::replace(&mut self.attributes, attributes);
+        match (before, &mut self.attributes) {
+            (Attributes::Behind(_), Attributes::Known(_)) if wrong::<F>(Fault::BehindStays) => {
+                self.attributes = before;
+            }
+            (Attributes::Known(before), Attributes::Known(values))
+                if wrong::<F>(Fault::ReservedKept) && values.bandwidths == [0, 0] =>
+            {
+                values.bandwidths = before.bandwidths;
+            }
+            _ => {}
+        }
+    }
 }
 
 #[cfg(test)]

@@ -1,24 +1,11 @@
 //! The drill program as a program: what it says to inputs of every sort of end.
 
-use std::io::Write;
-use std::process::{Command, Stdio};
+mod speaking;
 
-const SETTINGS: [u8; 19] = [
-    0x11, 0, 0x20, 0, 2, 2, 0, 0, 0, 0, 1, 0, 0, 0, 0x32, 0x0A, 2, 0x0A, 0,
-];
-const TICK: &[u8] = &[2, 0, 1, 0];
+use speaking::{say_to, BAD_SETTINGS, SETTINGS, TICK};
 
 fn say(input: &[u8]) -> String {
-    let mut child = Command::new(env!("CARGO_BIN_EXE_model-drill"))
-        .stdin(Stdio::piped())
-        .stdout(Stdio::piped())
-        .spawn()
-        .unwrap();
-    // The program may end before it has read everything.
-    let _ = child.stdin.take().unwrap().write_all(input);
-    let output = child.wait_with_output().unwrap();
-    assert!(output.status.success());
-    String::from_utf8(output.stdout).unwrap()
+    say_to(env!("CARGO_BIN_EXE_model-drill"), input)
 }
 
 fn say_after_settings(records: &[&[u8]]) -> String {
@@ -29,17 +16,8 @@ fn say_after_settings(records: &[&[u8]]) -> String {
 
 #[test]
 fn settings_that_end_the_drill() {
-    let cases: [(&[u8], &str); 8] = [
-        (&[], "settings 2\n"),
-        (&[17], "settings 2\n"),
-        (&[1, 0, 32], "settings 2\n"),
-        (&[0x0A, 0x04, 33, 0], "settings 2\n"),
-        (&SETTINGS[..18], "settings 2\n"),
-        (&[2, 0, 1, 0, 2, 0, 1, 0], "settings 3\n"),
-        (&[8, 0, 40, 0, 2, 0, 0, 0, 0, 1], "settings 3\n"),
-        (&[8, 0, 33, 0, 1, 0, 0, 0, 0, 1], "settings 4\n"),
-    ];
-    for (input, said) in cases {
+    let question: (&[u8], &str) = (&[8, 0, 40, 0, 2, 0, 0, 0, 0, 1], "settings 3\n");
+    for (input, said) in BAD_SETTINGS.into_iter().chain([question]) {
         assert_eq!(say(input), said, "{input:?}");
     }
 }

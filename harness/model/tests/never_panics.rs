@@ -1,8 +1,7 @@
 //! Bytes of every sort through every call. Debug builds also check each sum and each place.
 
-use model::drill;
 use model::faults::{Fault, RIGHT};
-use model::{write_block, Node, Values};
+use model::{drill, planner, write_block, Node, Values};
 
 /// Splitmix64: enough chance for a test.
 struct Chance(u64);
@@ -57,6 +56,8 @@ fn random_records() {
         let address = chance.next() >> chance.below(64);
         node.steer(address);
         node.attributes(address);
+        let own = [chance.next() as u16, chance.byte().into()];
+        node.free_bandwidth(chance.next() as u32 >> chance.below(32), own);
     }
 }
 
@@ -69,8 +70,26 @@ fn random_bytes_as_a_drill() {
         let start = chance.next() as usize % input.len();
         drill::say::<RIGHT>(&input);
         drill::say::<RIGHT>(&input[start..]);
-        for fault in Fault::ALL {
+        for fault in Fault::all() {
             fault.drill()(&input);
+        }
+    }
+}
+
+#[test]
+fn random_records_as_a_plan() {
+    let mut chance = Chance(4);
+    for _ in 0..500 {
+        let mut input = vec![8, 0, 33, 0, 2, 2, 2, 2, 2, 2];
+        for _ in 0..60 {
+            input.extend(chance.record());
+            input.extend([10, 0, 41, 0]);
+            input.extend((0..8).map(|_| chance.byte()));
+        }
+        let start = chance.next() as usize % input.len();
+        planner::say::<RIGHT>(&input[start..]);
+        for fault in Fault::all() {
+            fault.planner()(&input);
         }
     }
 }

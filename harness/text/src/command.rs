@@ -10,7 +10,7 @@ use crate::many::run_all;
 use crate::marks::reports_kept;
 use crate::options::{Options, Task, USAGE};
 use crate::picture::{draw, note, Sheet};
-use crate::program::{cannot, Program, Room};
+use crate::program::{cannot, Program, Room, RUN};
 use crate::reading::{Text, MOST_BYTES};
 use crate::said::Said;
 use crate::saying::{refused_settings, say};
@@ -87,7 +87,7 @@ fn program(options: &Options) -> Result<Program, String> {
             return Err(format!("{before} ended with {status}"));
         }
     }
-    Program::find(options.drill.as_deref())
+    Program::find(options.drill.as_deref(), RUN)
 }
 
 /// Prints the program's lines as they come. They are kept as well if there is something to check, and then read to the end, whoever still listens.

@@ -14,8 +14,8 @@ use std::time::{Duration, Instant};
 const TIME_LIMIT: Duration = Duration::from_secs(120);
 /// Between two looks at a program that is about to end.
 const PAUSE: Duration = Duration::from_millis(1);
-/// The script that runs the proved program, from the root of the repository.
-const USUAL: [&str; 2] = ["drills", "run"];
+/// The script that runs the proved drill program, from the root of the repository.
+pub const RUN: &str = "drills/run";
 
 /// A command that takes a drill's path as its last argument.
 #[derive(Clone, Debug)]
@@ -32,21 +32,19 @@ pub struct Said {
 }
 
 impl Program {
-    /// The command as given, or `drills/run` in this directory or the nearest above that has it.
-    pub fn find(given: Option<&str>) -> Result<Program, String> {
+    /// The command as given, or the usual script in this directory or the nearest above that has it.
+    pub fn find(given: Option<&str>, usual: &str) -> Result<Program, String> {
         if let Some(command) = given {
             return Program::of(command);
         }
         let here = env::current_dir().map_err(|error| format!("no current directory: {error}"))?;
-        let usual: PathBuf = USUAL.iter().collect();
-        let found = here.ancestors().map(|top| top.join(&usual));
+        let found = here.ancestors().map(|top| top.join(usual));
         match found.into_iter().find(|path| path.is_file()) {
             Some(path) => Ok(Program {
                 words: vec![path.into_os_string()],
             }),
             None => Err(format!(
-                "no {} in this directory or above; name a command with --drill",
-                usual.display()
+                "no {usual} in this directory or above; name a command with --drill"
             )),
         }
     }

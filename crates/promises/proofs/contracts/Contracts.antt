@@ -1,4 +1,5 @@
--- The contracts of the controller, and of the writer and the reader of blocks, are the definitions that the demands cite, by computation. Assumes nothing.
+-- The contracts of the controller, of the planner's question, and of the writer and the reader of blocks, are the definitions that the demands cite, by computation.
+-- Assumes nothing.
 use mathlib.Core.Path.{_≡_, refl}
 use lib.ListN.{length}
 use base.Logic.{emp}
@@ -10,9 +11,11 @@ use Rattle.blocks.proofs as blocks
 use Rattle.blocks.specs.Meaning.{blockAt}
 use Rattle.blocks.specs.Writing.{Wrote}
 use Rattle.controller.proofs as controller
-use Rattle.controller.specs.Node.{node, startedIn, answerIn, stateOf, westRequest, eastRequest, steered, asked}
+use Rattle.controller.specs.Node.{node, startedIn, answerIn, settingsOf, stateOf, westRequest, eastRequest, steered, asked}
 use Rattle.controller.specs.Kept.{Kept}
 use Rattle.controller.specs.Promise.{Begun, Recorded}
+use Rattle.bandwidth.proofs as bandwidth
+use Rattle.bandwidth.specs.Free.{freeBandwidth}
 use Rattle.promises.specs.Contracts.{Asking, IsAsked, IsPromised}
 
 -- Start asks nothing: any bytes.
@@ -70,6 +73,14 @@ pub east-request-is :
     (λ κs a x e. x ≡ eastRequest (stateOf (node (now (a .0)) (now (a .1 .0)))))
 east-request-is = (λ w κs a x e. refl, refl)
 
+pub level-asks : IsAsked controller.level.ended controller.level.Reads.requires controller.level.Reads.Pre (λ κs a. Kept (node (now (a .0)) (now (a .1 .0))))
+level-asks = (λ w κs a. refl, refl)
+
+pub level-is :
+    IsPromised controller.level.ended controller.level.Reads.ensures controller.level.Reads.Post
+    (λ κs a x e. x ≡ settingsOf (node (now (a .0)) (now (a .1 .0))) .level)
+level-is = (λ w κs a x e. refl, refl)
+
 pub own-sequence-asks :
     IsAsked controller.own_sequence.ended controller.own_sequence.Reads.requires controller.own_sequence.Reads.Pre (λ κs a. Kept (node (now (a .0)) (now (a .1 .0))))
 own-sequence-asks = (λ w κs a. refl, refl)
@@ -87,6 +98,17 @@ pub station-count-is :
     IsPromised controller.station_count.ended controller.station_count.Reads.ensures controller.station_count.Reads.Post
     (λ κs a x e. x ≡ length (stateOf (node (now (a .0)) (now (a .1 .0))) .stations))
 station-count-is = (λ w κs a x e. refl, refl)
+
+-- A node that is kept; any numbers.
+pub free-bandwidth-asks :
+    IsAsked bandwidth.free_bandwidth.ended bandwidth.free_bandwidth.Reads.requires bandwidth.free_bandwidth.Reads.Pre
+    (λ κs a. Kept (node (now (a .0)) (now (a .1 .0))))
+free-bandwidth-asks = (λ w κs a. refl, refl)
+
+pub free-bandwidth-is :
+    IsPromised bandwidth.free_bandwidth.ended bandwidth.free_bandwidth.Reads.ensures bandwidth.free_bandwidth.Reads.Post
+    (λ κs a x e. x ≡ freeBandwidth (stateOf (node (now (a .0)) (now (a .1 .0)))) (a .1 .1 .0) (a .1 .1 .1 .0) (a .1 .1 .1 .1 .0))
+free-bandwidth-is = (λ w κs a x e. refl, refl)
 
 -- The writer and the reader of blocks ask nothing: any numbers, any buffer, any bytes.
 pub write-block-asks :

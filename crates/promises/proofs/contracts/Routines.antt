@@ -8,9 +8,11 @@ use Rattle.blocks.proofs as blocks
 use Rattle.blocks.specs.Meaning.{blockAt}
 use Rattle.blocks.specs.Writing.{Wrote}
 use Rattle.controller.proofs as controller
-use Rattle.controller.specs.Node.{node, startedIn, answerIn, stateOf, westRequest, eastRequest, steered, asked}
+use Rattle.controller.specs.Node.{node, startedIn, answerIn, settingsOf, stateOf, westRequest, eastRequest, steered, asked}
 use Rattle.controller.specs.Kept.{Kept}
 use Rattle.controller.specs.Promise.{Begun, Recorded}
+use Rattle.bandwidth.proofs as bandwidth
+use Rattle.bandwidth.specs.Free.{freeBandwidth}
 use Rattle.promises.specs.Contracts.{RoutineMeets, RoutineAlwaysMeets}
 
 -- Any bytes.
@@ -52,6 +54,12 @@ pub east-request-meets :
     (λ κs a x e. x ≡ eastRequest (stateOf (node (now (a .0)) (now (a .1 .0)))))
 east-request-meets w = controller.east_request.Met.met (w .𝓤) (w .H) (w .𝓜) (w .𝓖) (w .𝓡)
 
+pub level-meets :
+    RoutineMeets controller.level.ended controller.level.Symbol.routine
+    (λ κs a. Kept (node (now (a .0)) (now (a .1 .0))))
+    (λ κs a x e. x ≡ settingsOf (node (now (a .0)) (now (a .1 .0))) .level)
+level-meets w = controller.level.Met.met (w .𝓤) (w .H) (w .𝓜) (w .𝓖) (w .𝓡)
+
 pub own-sequence-meets :
     RoutineMeets controller.own_sequence.ended controller.own_sequence.Symbol.routine
     (λ κs a. Kept (node (now (a .0)) (now (a .1 .0))))
@@ -63,6 +71,13 @@ pub station-count-meets :
     (λ κs a. Kept (node (now (a .0)) (now (a .1 .0))))
     (λ κs a x e. x ≡ length (stateOf (node (now (a .0)) (now (a .1 .0))) .stations))
 station-count-meets w = controller.station_count.Met.met (w .𝓤) (w .H) (w .𝓜) (w .𝓖) (w .𝓡)
+
+-- A node that is kept; any numbers.
+pub free-bandwidth-meets :
+    RoutineMeets bandwidth.free_bandwidth.ended bandwidth.free_bandwidth.Symbol.routine
+    (λ κs a. Kept (node (now (a .0)) (now (a .1 .0))))
+    (λ κs a x e. x ≡ freeBandwidth (stateOf (node (now (a .0)) (now (a .1 .0)))) (a .1 .1 .0) (a .1 .1 .1 .0) (a .1 .1 .1 .1 .0))
+free-bandwidth-meets w = bandwidth.free_bandwidth.Met.met (w .𝓤) (w .H) (w .𝓜) (w .𝓖) (w .𝓡)
 
 -- Any numbers and any buffer.
 pub write-block-meets :

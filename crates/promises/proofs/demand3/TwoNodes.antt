@@ -43,18 +43,18 @@ module _ (c : Choice) (K : List ℕ) (sub : Sub K (c .known)) where
 -- To nodes of the program: b are the settings bytes of the larger node, a those of one of a lower level; each call of both met its contract.
 module _ (a b : List ℕ) (level : ℕ) (lower : level ≤ settingsIn b .settings .level) (equal : settingsIn a .settings ≡ withLevel level (settingsIn b .settings))
     (small large : Started) (begun-small : Begun a small) (begun-large : Begun b large) where
-  abbrev c : Choice
+  abbrev pub c : Choice
   c = choiceOf (settingsIn b .settings)
 
-  sub : Sub (knows level) (c .known)
+  pub sub : Sub (knows level) (c .known)
   sub = knows-more level (settingsIn b .settings .level) lower
 
-  smaller-start : startOf a ≡ started (knowing (knows level) c)
+  pub smaller-start : startOf a ≡ started (knowing (knows level) c)
   unfolding startOf ticksOf
   smaller-start = ap (λ (s : Settings). started (choiceOf s)) equal
 
   -- No 8 of the program is no 8 of the rules.
-  no-eight : (h : List Made) → Met large h → NoEightMade h → NoEight (startOf b) (callsOf h)
+  pub no-eight : (h : List Made) → Met large h → NoEightMade h → NoEight (startOf b) (callsOf h)
   unfolding Met NoEightMade NoEight callsOf
   no-eight [] met n = tt
   no-eight (m ∷ h) met n = (

@@ -19,6 +19,9 @@ west-request-unique = (λ w κs a x e. refl, λ κs a x y e f p q. p ∙ sym q)
 pub east-request-unique : Fixes controller.east_request.ended controller.east_request.Reads.ensures controller.east_request.Reads.Post
 east-request-unique = (λ w κs a x e. refl, λ κs a x y e f p q. p ∙ sym q)
 
+pub level-unique : Fixes controller.level.ended controller.level.Reads.ensures controller.level.Reads.Post
+level-unique = (λ w κs a x e. refl, λ κs a x y e f p q. p ∙ sym q)
+
 pub own-sequence-unique : Fixes controller.own_sequence.ended controller.own_sequence.Reads.ensures controller.own_sequence.Reads.Post
 own-sequence-unique = (λ w κs a x e. refl, λ κs a x y e f p q. p ∙ sym q)
 

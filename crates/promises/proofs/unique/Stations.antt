@@ -23,6 +23,9 @@ find-station-unique = (λ w κs a x e. refl, λ κs a x y e f p q. p ∙ sym q)
 pub station-count-unique : Fixes stations.station_count.ended stations.station_count.Reads.ensures stations.station_count.Reads.Post
 station-count-unique = (λ w κs a x e. refl, λ κs a x y e f p q. p ∙ sym q)
 
+pub address-at-unique : Fixes stations.address_at.ended stations.address_at.Reads.ensures stations.address_at.Reads.Post
+address-at-unique = (λ w κs a x e. refl, λ κs a x y e f p q. p ∙ sym q)
+
 pub hop-at-unique : Fixes stations.hop_at.ended stations.hop_at.Reads.ensures stations.hop_at.Reads.Post
 hop-at-unique = (λ w κs a x e. refl, λ κs a x y e f p q. p ∙ sym q)
 

@@ -1,4 +1,4 @@
-//! The settings of a drill, and the settings records that a start refuses.
+//! The settings that a drill or a plan opens with, and the settings records that a start refuses.
 
 use text::records::{self, record, Bytes, Settings};
 
@@ -6,29 +6,29 @@ use crate::chance::Chance;
 
 /// Settings, and the kind of record that carries them.
 #[derive(Clone, Debug)]
-pub struct Plan {
+pub struct Opening {
     /// As the settings record counts them.
     pub settings: Settings,
     /// Given as short settings, kind 33.
     pub short: bool,
 }
 
-impl Plan {
+impl Opening {
     /// Settings that a start takes.
-    pub fn new(chance: &mut Chance) -> Plan {
+    pub fn new(chance: &mut Chance) -> Opening {
         let own = own_address(chance);
         match chance.below(20) {
-            0 => Plan::defaults(own),
-            1 | 2 => Plan::full(anywhere(chance, own)),
-            3..=6 => Plan::full(waiting(chance, own)),
-            7..=10 => Plan::full(holding(chance, own)),
-            _ => Plan::full(brisk(chance, own)),
+            0 => Opening::defaults(own),
+            1 | 2 => Opening::full(anywhere(chance, own)),
+            3..=6 => Opening::full(waiting(chance, own)),
+            7..=10 => Opening::full(holding(chance, own)),
+            _ => Opening::full(brisk(chance, own)),
         }
     }
 
-    fn defaults(own: u64) -> Plan {
+    fn defaults(own: u64) -> Opening {
         let address = own;
-        Plan {
+        Opening {
             settings: Settings {
                 address,
                 ..Settings::DEFAULT
@@ -37,8 +37,8 @@ impl Plan {
         }
     }
 
-    fn full(settings: Settings) -> Plan {
-        Plan {
+    fn full(settings: Settings) -> Opening {
+        Opening {
             settings,
             short: false,
         }
@@ -112,10 +112,10 @@ fn own_address(chance: &mut Chance) -> u64 {
     chance.pick(&[0x0200_0000_0001, 0x0200_0000_0080, 0, 0xFEFF_FFFF_FFFF, any])
 }
 
-/// The beginning of a drill that ends with its settings.
+/// The beginning of an input that ends with its settings.
 pub fn refused(chance: &mut Chance) -> Bytes {
-    let plan = Plan::new(chance);
-    let mut good = plan.bytes();
+    let opening = Opening::new(chance);
+    let mut good = opening.bytes();
     match chance.below(8) {
         0 => Vec::new(),
         1 => {
@@ -137,14 +137,14 @@ pub fn refused(chance: &mut Chance) -> Bytes {
             let length = chance.pick(&[0, 1, 5, 7, 14, 16, 17, 300]);
             record(kind, &vec![2; length])
         }
-        _ => out_of_range(chance, plan),
+        _ => out_of_range(chance, opening),
     }
 }
 
 /// One field out of its range, or an odd own address.
-fn out_of_range(chance: &mut Chance, mut plan: Plan) -> Bytes {
-    plan.short = false;
-    let settings = &mut plan.settings;
+fn out_of_range(chance: &mut Chance, mut opening: Opening) -> Bytes {
+    opening.short = false;
+    let settings = &mut opening.settings;
     match chance.below(8) {
         0 => settings.level = chance.pick(&[0, 3, 255]),
         1 => settings.wtr = chance.pick(&[1_441, 0x0A00, 65_535]),
@@ -155,10 +155,10 @@ fn out_of_range(chance: &mut Chance, mut plan: Plan) -> Bytes {
         6 => settings.forget = chance.pick(&[0, 1, 601, 0x0A00, 65_535]),
         _ => {
             settings.address |= 1 << 40;
-            plan.short = chance.percent(50);
+            opening.short = chance.percent(50);
         }
     }
-    plan.bytes()
+    opening.bytes()
 }
 
 #[cfg(test)]
@@ -167,11 +167,11 @@ mod tests {
     use model::Node;
 
     #[test]
-    fn plans_are_taken_and_refused_ones_are_not() {
+    fn openings_are_taken_and_refused_ones_are_not() {
         let mut chance = Chance::new(3);
         let mut seen = [0; 5];
         for _ in 0..2_000 {
-            assert_eq!(Node::start(&Plan::new(&mut chance).bytes()).0, 0);
+            assert_eq!(Node::start(&Opening::new(&mut chance).bytes()).0, 0);
             let (result, _) = Node::start(&refused(&mut chance));
             seen[usize::from(result)] += 1;
         }
