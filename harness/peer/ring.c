@@ -49,7 +49,8 @@ static int take_link(struct ring *r, const uint8_t *body) {
     if (body[1] > FAILED) return BAD_BODY;
     if (body[1] == s->link) return TAKEN;
     s->link = body[1];
-    s->hold_off_left = s->link > s->in_force ? r->settings.hold_off : 0;
+    if (s->link <= s->in_force) s->hold_off_left = 0;
+    else if (!s->hold_off_left) s->hold_off_left = r->settings.hold_off;
     if (!s->hold_off_left) s->in_force = s->link;
     return TAKEN;
 }

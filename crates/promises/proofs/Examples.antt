@@ -1,4 +1,4 @@
--- The twelve examples, by computation. Assumes nothing.
+-- The twelve examples, and those of the requests, by computation. Assumes nothing.
 use mathlib.Core.Path.{refl}
 use Rattle.wire.specs.Fields.{addressAt}
 use Rattle.wire.specs.Head.{broken, headOf}
@@ -9,7 +9,7 @@ use Rattle.blocks.specs.Types.{knows, good, among}
 use Rattle.blocks.specs.Entries.{cut}
 use Rattle.blocks.specs.Meaning.{known, has, sound, behind, value}
 use Rattle.promises.specs.History.{startOf}
-use Rattle.promises.specs.Examples.{AllHold, answersTo, ticks, examples}
+use Rattle.promises.specs.Examples.{AllHold, answersTo, ticks, examples, requested}
 
 pub twelve : AllHold examples
 unfolding AllHold answersTo startOf ticks settingsIn headOf broken fullIn fieldsOf inRange addressAt ticksOf cut known has sound behind value knows good among
@@ -56,3 +56,7 @@ twelve = (
     ),
   ),
 )
+
+pub of-requests : AllHold requested
+unfolding AllHold answersTo startOf ticks settingsIn headOf broken fullIn fieldsOf inRange addressAt ticksOf cut known has sound behind value knows good among
+of-requests = (record { taken = refl; answers = refl }, (record { taken = refl; answers = refl }, tt))

@@ -1,4 +1,4 @@
--- The twelve examples of 01 as drills through a whole controller, from bytes.
+-- The twelve examples of 01, and those of the requests of 02, as drills through a whole controller, from bytes.
 use Prim.Native.Nat.{ℕ, zero, suc, _+_, _/_, _%_}
 use mathlib.Core.Path.{_≡_}
 use mathlib.Core.List.{List, [], _∷_, _++_}
@@ -191,3 +191,17 @@ P12 = drill 0 (ring 3) (results ∷ way 3 ∷ []) (0 ∷ 0 ∷ 0 ∷ 0 ∷ 0 ∷
 -- "One statement over one list covers these."
 abbrev pub examples : List Example
 examples = P1 ∷ P2 ∷ P3 ∷ P3-again ∷ P4 ∷ P5 ∷ P6 ∷ P6-after ∷ P7 ∷ P8 ∷ P9 ∷ P10 ∷ P11 ∷ P12 ∷ []
+
+-- 02, Item 2: "With 3 steps, failed at tick 0, degraded after tick 20 gives SD after tick 30".
+abbrev pub swings : ℕ → List (List ℕ)
+swings later = link 0 2 ∷ (ticks 20 ++ (link 0 1 ∷ ticks later))
+
+abbrev pub Swing : Example
+Swing = drill 3 (swings 9) (west ∷ []) (0 ∷ [])
+
+abbrev pub Swing-after : Example
+Swing-after = drill 3 (swings 10) (west ∷ []) (3 ∷ [])
+
+-- The examples that the requests of 02 bring with them.
+abbrev pub requested : List Example
+requested = Swing ∷ Swing-after ∷ []

@@ -3,6 +3,7 @@ pub mod Refusals
 pub mod Levels
 pub mod Steering
 pub mod Spans
+pub mod HoldOff
 pub mod Marks
 pub mod Written
 pub mod Examples

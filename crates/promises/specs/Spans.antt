@@ -97,17 +97,19 @@ ticksQuiet own n a (c ∷ h) =
 abbrev pub upTo : ℕ → ℕ → ℕ
 upTo setting a = cond (ltb a setting) a setting
 
--- A link record of span n was taken ..
-unfoldable pub linkTaken : ℕ → ℕ → List Call → Bool
+-- A record of some sort was taken: ..
+unfoldable pub someTaken : ℕ → (Reading → Bool) → List Call → Bool
 unfolding reading
-linkTaken own n [] = false
-linkTaken own n (c ∷ h) = isLink n (readAs own c) || linkTaken own n h
+someTaken own sort [] = false
+someTaken own sort (c ∷ h) = sort (readAs own c) || someTaken own sort h
 
--- .. or an operator record of it.
-unfoldable pub operatorTaken : ℕ → ℕ → List Call → Bool
-unfolding reading
-operatorTaken own n [] = false
-operatorTaken own n (c ∷ h) = isOperator n (readAs own c) || operatorTaken own n h
+-- .. a link record of span n, ..
+abbrev pub linkTaken : ℕ → ℕ → List Call → Bool
+linkTaken own n = someTaken own (isLink n)
+
+-- .. an operator record of it.
+abbrev pub operatorTaken : ℕ → ℕ → List Call → Bool
+operatorTaken own n = someTaken own (isOperator n)
 
 -- A history without its operator records of span n.
 unfoldable pub unasked : ℕ → ℕ → List Call → List Call

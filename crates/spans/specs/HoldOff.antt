@@ -1,4 +1,4 @@
--- A status that is held off. 01, Span requests.
+-- A status that is held off. 01, Span requests; 02, Item 2.
 use mathlib.Core.Path.{_≡_}
 use mathlib.Core.Bool.{false, cond}
 use Prim.Native.Nat.{ℕ, _-_, _<_}
@@ -7,7 +7,8 @@ use Rattle.settings.specs.declared.choice.Ticks.{Ticks}
 use Rattle.spans.specs.Codes.{none}
 use Rattle.spans.specs.Records.{Span}
 
--- A span k ticks after the status x came, worse than the status f in force then: f is in force while k is below the setting, and from then on x.
+-- A span k ticks after its hold-off began, with the status f in force then and the status x stored, which is worse: f is in force while k is below the
+-- setting, and from then on x.
 pub record HeldOff (t : Ticks) (f x k : ℕ) (s : Span) : Type 0 where
   pub stored : s .stored ≡ x
   pub force : s .force ≡ cond (ltb k (t .holdoff)) f x

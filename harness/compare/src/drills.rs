@@ -14,6 +14,7 @@ use crate::opening::{self, Opening};
 use crate::scenes;
 use crate::script::{end, Script};
 use crate::subject::{right, Subject};
+use crate::swings::{self, ENDED, RAN_ON};
 use crate::tally::{Tally, OTHER};
 use crate::wild;
 
@@ -54,8 +55,10 @@ impl Subject for Drills {
         Tally::new(self.word(), &LABELS)
     }
 
-    fn count(&self, _: &[u8], said: &[u8]) -> Tally {
-        tally(said)
+    fn count(&self, input: &[u8], said: &[u8]) -> Tally {
+        let mut tally = tally(said);
+        swings::count(input, &mut tally);
+        tally
     }
 
     /// Each record has its line.
@@ -115,7 +118,7 @@ fn play(mut chance: Chance, budget: usize, settings: Option<Bytes>) -> Script {
 }
 
 /// What is counted: results of full lines, replies, refused settings, ends, and more.
-const LABELS: [&str; 22] = [
+const LABELS: [&str; 24] = [
     "result 0",
     "result 3",
     "result 4",
@@ -138,12 +141,14 @@ const LABELS: [&str; 22] = [
     END,
     REFUSED_QUESTION,
     REPORTS,
+    RAN_ON,
+    ENDED,
 ];
 const END: &str = "end 'n 2'";
 const REFUSED_QUESTION: &str = "question 4";
 const REPORTS: &str = "reports";
 
-/// The counts of one drill.
+/// The counts of the lines of one drill.
 fn tally(said: &[u8]) -> Tally {
     let mut tally = Drills.nothing();
     tally.inputs = 1;
@@ -267,6 +272,16 @@ mod tests {
                 assert!(usize::from(length) <= LONGEST);
             }
         }
+    }
+
+    #[test]
+    fn many_drills_see_the_end_of_a_hold_off_that_ran_on() {
+        let ends = |seed| {
+            let bytes = drill(seed).bytes();
+            Drills.count(&bytes, &say::<RIGHT>(&bytes)).of(ENDED)
+        };
+        let drills = (1..=200).filter(|&seed| ends(seed) > 0).count();
+        assert!(drills > 40, "{drills} of 200");
     }
 
     #[test]

@@ -19,6 +19,7 @@ mod script;
 mod selftest;
 mod shorten;
 mod subject;
+mod swings;
 mod tally;
 mod voice;
 mod wild;

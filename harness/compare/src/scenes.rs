@@ -13,7 +13,7 @@ use crate::wild;
 pub type Scene = fn(&mut Maker);
 
 /// Scenes and how often each comes.
-const SCENES: [(usize, Scene); 18] = [
+const SCENES: [(usize, Scene); 19] = [
     (8, learn),
     (10, quarrel),
     (7, displace),
@@ -26,6 +26,7 @@ const SCENES: [(usize, Scene); 18] = [
     (5, forget),
     (4, pace),
     (6, hold),
+    (6, dirty),
     (2, wrap),
     (7, block_round),
     (6, wild::refusals),
@@ -444,6 +445,63 @@ fn hold(m: &mut Maker) {
         if m.chance.percent(20) {
             m.ask_around();
         }
+    }
+}
+
+/// A dirty connector: a link, or both, swing every few ticks for about as long as hold-off, or longer.
+fn dirty(m: &mut Maker) {
+    let all = 10 * usize::from(m.opening.settings.hold_off);
+    if all == 0 {
+        return flap(m);
+    }
+    for _ in 0..m.chance.range(1, 3) {
+        let spans = m.chance.pick(&[&[0][..], &[1], &[0, 1]]);
+        m.heal();
+        if m.chance.percent(35) {
+            degrade(m, spans, all);
+        }
+        if spans.len() > 1 && m.chance.percent(50) {
+            // One is ahead, so that the two times end apart.
+            let ahead = m.chance.range(1, all);
+            change(m, &spans[1..], &[1, 2]);
+            m.ticks(ahead, NONE_DEAF);
+        }
+        // The last change comes just before the last tick of hold-off, just after it, a tick later, or much later.
+        let much = m.chance.range(all, 3 * all);
+        let ticks = m.chance.pick(&[all - 1, all - 1, all, all + 1, much]);
+        swing(m, spans, ticks);
+        m.ticks(1, NONE_DEAF);
+        m.ask_around();
+    }
+}
+
+/// Links are degraded for the whole of hold-off, so that this comes into force.
+fn degrade(m: &mut Maker, spans: &[usize], all: usize) {
+    change(m, spans, &[1]);
+    m.ticks(all, NONE_DEAF);
+}
+
+/// Links change every few ticks, and once more after the last.
+fn swing(m: &mut Maker, spans: &[usize], ticks: usize) {
+    // A good status ends hold-off, so that most swings have none.
+    let statuses = [&[1, 2][..], &[1, 2], &[1, 2, 2, 2], &[0, 1, 1, 2, 2, 2]];
+    let statuses = m.chance.pick(&statuses);
+    let few = m.chance.pick(&[2, 4, 9]);
+    let mut left = ticks;
+    while left > 0 {
+        change(m, spans, statuses);
+        let some = m.chance.range(1, few).min(left);
+        m.ticks(some, NONE_DEAF);
+        left -= some;
+    }
+    change(m, spans, statuses);
+}
+
+/// Each of these links reports one of these statuses, maybe the one that it has.
+fn change(m: &mut Maker, spans: &[usize], statuses: &[u8]) {
+    for &span in spans {
+        let status = m.chance.pick(statuses);
+        m.link(span, status);
     }
 }
 

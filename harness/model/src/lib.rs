@@ -21,3 +21,4 @@ mod ways;
 pub use bandwidth::Free;
 pub use blocks::{write_block, Values};
 pub use node::{Node, NodeOf, Shown};
+pub use spans::Status;

@@ -7,7 +7,7 @@ use crate::faults::{wrong, Fault, RIGHT};
 use crate::pacer::Pacer;
 use crate::records::{self, Event, Report};
 use crate::settings::Settings;
-use crate::spans::{Request, Span};
+use crate::spans::{Request, Span, Status};
 use crate::stations::Table;
 use crate::ways;
 
@@ -233,6 +233,11 @@ impl<const F: u8> NodeOf<F> {
     /// The request on the east span.
     pub fn east_request(&self) -> u8 {
         self.spans[1].request(&self.settings) as u8
+    }
+
+    /// The stored link status and the hold-off ticks left, west and east.
+    pub fn links(&self) -> [(Status, u32); 2] {
+        self.spans.each_ref().map(Span::stored)
     }
 
     /// The own sequence.

@@ -86,23 +86,64 @@ impl Span {
         }
     }
 
-    /// A link record came.
+    /// A link record came. A status worse than the one in force waits for hold-off; where that runs already, it runs on.
     pub fn link<const F: u8>(&mut self, status: Status, settings: &Settings) {
-        if status == self.link {
+        if status == self.link || self.is_passed_over::<F>(status) {
             return;
         }
+        let waits = self.waits::<F>(status);
+        let starts = self.hold_off == 0 || self.starts_anew::<F>(status);
+        let goes_on = wrong::<F>(Fault::BetterRunsOn) && status < self.in_force;
         self.link = status;
-        let worse = if wrong::<F>(Fault::HoldOffForBetter) {
-            status > Status::Good
-        } else {
-            status > self.in_force
-        };
-        if !worse || settings.hold_off == 0 {
+        if !waits || settings.hold_off == 0 {
             self.in_force = status;
-            self.hold_off = 0;
-        } else if !wrong::<F>(Fault::HoldOffNotAnew) || self.hold_off == 0 {
+            if !goes_on {
+                self.hold_off = 0;
+            }
+        } else if starts {
             self.hold_off = settings.hold_off;
+        } else if wrong::<F>(Fault::StepAnew) {
+            self.hold_off = self.hold_off.next_multiple_of(10);
         }
+    }
+
+    /// Whether a status has to wait: if it is worse than the one in force. All wrong models but the first differ only while hold-off runs.
+    fn waits<const F: u8>(&self, status: Status) -> bool {
+        let worse = status > self.in_force;
+        let again = status == self.in_force;
+        let bad = status > Status::Good;
+        if wrong::<F>(Fault::HoldOffForBetter) {
+            bad
+        } else if self.hold_off == 0 {
+            worse
+        } else if wrong::<F>(Fault::ChangeAtOnce) {
+            false
+        } else if wrong::<F>(Fault::EasingAtOnce) {
+            worse && status > self.link
+        } else if wrong::<F>(Fault::EqualRunsOn) {
+            worse || again
+        } else if wrong::<F>(Fault::DegradedRunsOn) {
+            worse || (again && bad)
+        } else if wrong::<F>(Fault::BetterWaits) {
+            worse || !again
+        } else {
+            worse
+        }
+    }
+
+    /// Whether a running hold-off starts anew; in the right model it never does.
+    fn starts_anew<const F: u8>(&self, status: Status) -> bool {
+        wrong::<F>(Fault::HoldOffAnew)
+            || (wrong::<F>(Fault::EasingAnew) && status < self.link)
+            || (wrong::<F>(Fault::WorseningAnew) && status > self.link)
+    }
+
+    /// Whether a status is not stored while hold-off runs; in the right model it always is.
+    fn is_passed_over<const F: u8>(&self, status: Status) -> bool {
+        let swings = self.hold_off > 0 && status > self.in_force;
+        let first = wrong::<F>(Fault::FirstStatusStays);
+        let worst = wrong::<F>(Fault::WorstStatusStays) && status < self.link;
+        swings && (first || worst)
     }
 
     /// A tick passes.
@@ -135,6 +176,11 @@ impl Span {
     /// A neighbour's report shows whether the cable is crossed.
     pub fn mark<const F: u8>(&mut self, crossed: bool) {
         self.crossed = crossed || (wrong::<F>(Fault::MarkStays) && self.crossed);
+    }
+
+    /// The stored status and the hold-off ticks left.
+    pub fn stored(&self) -> (Status, u32) {
+        (self.link, self.hold_off)
     }
 
     /// SF, SD or, for none, IDLE.
@@ -231,23 +277,100 @@ mod tests {
         assert_eq!(span.automatic(&set), Request::Sd);
     }
 
+    /// Ticks with keepalives coming, after each of which the automatic request is this one.
+    fn lasts(span: &mut Span, settings: &Settings, ticks: u32, request: Request) {
+        for tick in 1..=ticks {
+            span.keepalive();
+            span.tick::<RIGHT>(settings);
+            assert_eq!(span.automatic(settings), request, "after {tick} ticks");
+        }
+    }
+
+    /// A span whose link is degraded in force.
+    fn degraded(settings: &Settings) -> Span {
+        let mut span = Span::new();
+        span.link::<RIGHT>(Status::Degraded, settings);
+        lasts(&mut span, settings, settings.hold_off - 1, Request::Idle);
+        lasts(&mut span, settings, 1, Request::Sd);
+        span
+    }
+
     #[test]
-    fn another_worse_status_starts_hold_off_anew() {
+    fn another_worse_status_lets_hold_off_run_on() {
         let set = settings(0, 5);
         let mut span = Span::new();
         span.link::<RIGHT>(Status::Degraded, &set);
-        for _ in 0..4 {
-            span.keepalive();
-            span.tick::<RIGHT>(&set);
-        }
+        lasts(&mut span, &set, 2, Request::Idle);
         span.link::<RIGHT>(Status::Failed, &set);
-        for _ in 0..4 {
-            span.keepalive();
-            span.tick::<RIGHT>(&set);
-            assert_eq!(span.automatic(&set), Request::Idle);
+        lasts(&mut span, &set, 2, Request::Idle);
+        lasts(&mut span, &set, 1, Request::Sf);
+    }
+
+    #[test]
+    fn the_status_stored_at_the_end_comes_into_force_whichever_came_first() {
+        let set = settings(0, 5);
+        let ends = [
+            (Status::Degraded, Status::Failed, Request::Sd),
+            (Status::Failed, Status::Degraded, Request::Sf),
+        ];
+        for (last, other, request) in ends {
+            for swings in 0..5_u32 {
+                let mut span = Span::new();
+                // The last swing may come just before the last tick.
+                for left in (0..=swings).rev() {
+                    let status = if left % 2 == 0 { last } else { other };
+                    span.link::<RIGHT>(status, &set);
+                    lasts(&mut span, &set, u32::from(left > 0), Request::Idle);
+                }
+                lasts(&mut span, &set, 4 - swings, Request::Idle);
+                lasts(&mut span, &set, 1, request);
+            }
         }
-        span.tick::<RIGHT>(&set);
-        assert_eq!(span.automatic(&set), Request::Sf);
+    }
+
+    #[test]
+    fn the_status_in_force_ends_hold_off() {
+        let set = settings(0, 5);
+        for (mut span, in_force, request) in [
+            (Span::new(), Status::Good, Request::Idle),
+            (degraded(&set), Status::Degraded, Request::Sd),
+        ] {
+            span.link::<RIGHT>(Status::Failed, &set);
+            lasts(&mut span, &set, 4, request);
+            span.link::<RIGHT>(in_force, &set);
+            lasts(&mut span, &set, 3, request);
+            // What is worse has the whole time again.
+            span.link::<RIGHT>(Status::Failed, &set);
+            lasts(&mut span, &set, 4, request);
+            lasts(&mut span, &set, 1, Request::Sf);
+        }
+    }
+
+    #[test]
+    fn a_better_status_ends_hold_off() {
+        let set = settings(0, 5);
+        let mut span = degraded(&set);
+        span.link::<RIGHT>(Status::Failed, &set);
+        lasts(&mut span, &set, 4, Request::Sd);
+        span.link::<RIGHT>(Status::Good, &set);
+        assert_eq!(span.automatic(&set), Request::Idle);
+        span.link::<RIGHT>(Status::Degraded, &set);
+        lasts(&mut span, &set, 4, Request::Idle);
+        lasts(&mut span, &set, 1, Request::Sd);
+    }
+
+    #[test]
+    fn a_worse_status_after_the_end_has_a_hold_off_of_its_own() {
+        let set = settings(0, 5);
+        let mut span = Span::new();
+        span.link::<RIGHT>(Status::Failed, &set);
+        lasts(&mut span, &set, 3, Request::Idle);
+        span.link::<RIGHT>(Status::Degraded, &set);
+        lasts(&mut span, &set, 1, Request::Idle);
+        lasts(&mut span, &set, 1, Request::Sd);
+        span.link::<RIGHT>(Status::Failed, &set);
+        lasts(&mut span, &set, 4, Request::Sd);
+        lasts(&mut span, &set, 1, Request::Sf);
     }
 
     #[test]

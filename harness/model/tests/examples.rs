@@ -1,4 +1,4 @@
-//! The worked drill and the twelve examples, through the public calls alone.
+//! The worked drill, the twelve examples and that of the hold-off that runs on, through the public calls alone.
 
 use model::drill;
 use model::faults::RIGHT;
@@ -108,19 +108,34 @@ fn p4_p5_hops() {
     }
 }
 
+/// Ticks with keepalives coming, after each of which the west request is this one and the east IDLE.
+fn lasts(node: &mut Node, ticks: usize, west: u8) {
+    for tick in 1..=ticks {
+        for span in 0..2 {
+            give(node, &[3, 0, 3, 0, span]);
+        }
+        give(node, &TICK);
+        let requests = (node.west_request(), node.east_request());
+        assert_eq!(requests, (west, 0), "after {tick} ticks");
+    }
+}
+
 #[test]
 fn p6_hold_off_of_three_steps() {
     let mut node = started(2, 3);
     assert_eq!(give(&mut node, &link(0, 2)), 0);
-    for tick in 1..=30 {
-        for span in 0..2 {
-            give(&mut node, &[3, 0, 3, 0, span]);
-        }
-        give(&mut node, &TICK);
-        let expected = if tick < 30 { 0 } else { 4 };
-        assert_eq!(node.west_request(), expected, "after {tick} ticks");
-    }
-    assert_eq!(node.east_request(), 0);
+    lasts(&mut node, 29, 0);
+    lasts(&mut node, 1, 4);
+}
+
+#[test]
+fn failed_then_degraded_after_two_of_three_steps() {
+    let mut node = started(2, 3);
+    assert_eq!(give(&mut node, &link(0, 2)), 0);
+    lasts(&mut node, 20, 0);
+    assert_eq!(give(&mut node, &link(0, 1)), 0);
+    lasts(&mut node, 9, 0);
+    lasts(&mut node, 1, 3);
 }
 
 fn shown_after(level: u8, block: &[u8]) -> (u8, Shown) {

@@ -21,7 +21,7 @@ use Rattle.controller.specs.Handling.{acted}
 use Rattle.controller.specs.Closing.{settled}
 use Rattle.controller.specs.Record.{outcomeOf, outcome}
 use Rattle.promises.specs.History.{Call, after}
-use Rattle.promises.specs.Spans.{ownIn, readAs, isOperator, operatorTaken, unasked, spanAfter, askedOn, Swept, SameBeneath}
+use Rattle.promises.specs.Spans.{ownIn, readAs, isOperator, someTaken, operatorTaken, unasked, spanAfter, askedOn, Swept, SameBeneath}
 use Rattle.promises.proofs.demand2.AfterKept.{choice-after}
 use Rattle.promises.proofs.spans.Readings.{Sided, sided, same-span}
 use Rattle.promises.proofs.spans.OneRecord.{spans-alone, spans-call, span-call, touched, cabled-touched, ticked-both}
@@ -58,7 +58,7 @@ module _ (n : ℕ) (side : n ≤ 1) (t : Ticks) (y : Spans) where
 
 operator-stays : (n : ℕ) → n ≤ 1 → (s : State) (g h : List Call) → operatorTaken (s .choice .address) n h ≡ false
     → spanAfter n s (h ++ g) .operator ≡ spanAfter n s g .operator
-unfolding operatorTaken
+unfolding someTaken
 operator-stays n side s g [] u = refl
 operator-stays n side s g (c ∷ h) u =
     let t : Ticks = s .choice .ticks in

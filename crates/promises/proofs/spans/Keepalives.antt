@@ -4,13 +4,14 @@ use mathlib.Core.Path.{_≡_, refl, sym, _∙_, ap}
 use mathlib.Core.Bool.{Bool, true, false, cond, _||_, true≢false}
 use mathlib.Core.List.{List, [], _∷_, _++_}
 use native.Mathlib.Omega.{arith}
-use lib.Dec.{eqb, leb, ltb}
+use lib.Dec.{eqb, ltb}
 use borrow.Author.Tests.{eqb-true, eq-eqb, ltb-true, ltb-false, lt-ltb, le-ltb, le-leb}
 use Rattle.settings.specs.declared.choice.Ticks.{Ticks}
 use Rattle.spans.specs.declared.span.Span.{Span}
 use Rattle.spans.specs.Codes.{degraded, failed, SF, SD, none}
-use Rattle.spans.specs.Records.{worsened, linked, older, ticked, alive, asked}
+use Rattle.spans.specs.Records.{linked, older, ticked, alive, asked}
 use Rattle.spans.specs.Requests.{automatic, waited}
+use Rattle.spans.proofs.Fair.{link-alone}
 use Rattle.stations.proofs.Lists.{chosen}
 use Rattle.controller.specs.declared.reading.Reading.{Reading}
 use Rattle.controller.specs.declared.reading.Reading.the-variants.{Refused, Tick, Link, Keepalive, Operator, Heard, Block}
@@ -28,10 +29,7 @@ abbrev Aged : ℕ → Span → Type 0
 Aged a u = u .age ≡ a
 
 linked-age : (t : Ticks) (status : ℕ) (s : Span) → Aged (s .age) (linked t status s)
-unfolding linked worsened
-linked-age t status s =
-    chosen (Aged (s .age)) (eqb status (s .stored)) (λ h. refl)
-    (λ h. chosen (Aged (s .age)) (leb status (s .force)) (λ i. refl) (λ i. chosen (Aged (s .age)) (eqb (t .holdoff) 0) (λ j. refl) (λ j. refl)))
+linked-age t status s = link-alone (Aged (s .age)) t s status (λ stored force left. refl)
 
 waited-age : (t : Ticks) (was : ℕ) (s : Span) → Aged (s .age) (waited t was s)
 unfolding waited

@@ -10,7 +10,7 @@ use Rattle.settings.specs.Kept.{TicksKept}
 use Rattle.settings.specs.Ticks.{ticksOf}
 use Rattle.settings.specs.Ranges.{inRange}
 use Rattle.settings.specs.Reading.{fieldsOf, fullIn, settingsIn}
-use Rattle.spans.specs.Codes.{failed, MS, SF, IDLE, none}
+use Rattle.spans.specs.Codes.{degraded, failed, MS, SF, SD, IDLE, none}
 use Rattle.spans.specs.HoldOff.{LinkDecides}
 use Rattle.blocks.specs.Types.{knows}
 use Rattle.controller.specs.declared.reading.Reading.the-variants.{Tick, Link, Operator}
@@ -18,14 +18,15 @@ use Rattle.controller.specs.Reading.{blockOf, reading}
 use Rattle.controller.specs.State.{Choice, State, started}
 use Rattle.controller.specs.Node.{choiceOf, westRequest}
 use Rattle.promises.specs.History.{Call, after, answered, Always, AllBytes, startOf}
-use Rattle.promises.specs.Spans.{readAs, ticksTaken, ticksQuiet, linkTaken, operatorTaken, spanAfter, automaticOn, Unrequested}
+use Rattle.promises.specs.Spans.{readAs, someTaken, ticksTaken, ticksQuiet, linkTaken, spanAfter, automaticOn, Unrequested}
 use Rattle.promises.specs.Marks.{OnlyMark}
 use Rattle.promises.specs.Drilled.{callsFor}
-use Rattle.promises.specs.Examples.{address, station, tick, link, keepalive, report, attributes, settings, ticks}
+use Rattle.promises.specs.Examples.{address, station, tick, link, keepalive, report, attributes, settings, ticks, swings}
 use Rattle.promises.specs.Possible.{allBytes}
 use Rattle.promises.proofs.demand2.Possible.{all-bytes}
 use Rattle.promises.proofs.spans.HoldOff.{idle-meanwhile, failed-then}
 use Rattle.promises.proofs.spans.Keepalives.{keepalives-coming, silence-is-sf}
+use Rattle.promises.proofs.spans.Swinging.{idle-before, sd-then}
 use Rattle.promises.proofs.spans.Purging.{started-swept}
 use Rattle.promises.proofs.spans.Beneath.{as-if-not-come}
 use Rattle.promises.proofs.spans.Running.{wtr-runs-beneath}
@@ -33,25 +34,40 @@ use Rattle.promises.proofs.spans.Rising.{tick-never-lowers}
 use Rattle.promises.proofs.spans.Marks.{only-mark}
 
 -- Node 1 of the examples in ticks, with a WTR and a hold-off.
-abbrev node : ℕ → ℕ → Choice
+abbrev pub node : ℕ → ℕ → Choice
 node wtr holdoff = record {
   address = station 1;
   known = 1 ∷ 2 ∷ [];
   ticks = record { wtr = wtr; holdoff = holdoff; keepalive = 50; fast = 10; slow = 100; forget = 1000 };
 }
 
+-- Its times are in their ranges.
+pub ticks-met : (holdoff : ℕ) → holdoff ≤ 200 → TicksKept (node 0 holdoff .ticks)
+ticks-met holdoff low = record {
+  wtr = omega arith;
+  holdoff = low;
+  keepalive-low = omega arith;
+  keepalive = omega arith;
+  fast-low = omega arith;
+  fast = omega arith;
+  slow-low = omega arith;
+  slow = omega arith;
+  forget-low = omega arith;
+  forget = omega arith;
+}
+
 pub three-steps : choiceOf (settingsIn (settings 2 3) .settings) ≡ node 0 30
 unfolding settingsIn headOf broken fullIn fieldsOf inRange addressAt ticksOf knows
 three-steps = refl
 
-abbrev call : List ℕ → Call
+abbrev pub call : List ℕ → Call
 call b = record { bytes = b; room = 7 }
 
 -- P6: "hold-off 3 steps: failed link is IDLE after 29 ticks, SF after 30 (keepalives coming)".
-abbrev held : State
+abbrev pub held : State
 held = started (node 0 30)
 
-failing : readAs (station 1) (call (link 0 failed)) ≡ Link 0 failed
+pub failing : readAs (station 1) (call (link 0 failed)) ≡ Link 0 failed
 unfolding reading
 failing = refl
 
@@ -61,7 +77,7 @@ unfolding ticksTaken ticks
 counted = (refl, refl)
 
 unlinked : (linkTaken (station 1) 0 (callsFor (ticks 29)) ≡ false) × (linkTaken (station 1) 0 (callsFor (ticks 30)) ≡ false)
-unfolding linkTaken ticks
+unfolding someTaken ticks
 unlinked = (refl, refl)
 
 -- "keepalives coming": one tick since the latest.
@@ -83,9 +99,9 @@ link-decides = record {
 P6-in-ticks : (westRequest (after held (callsFor (link 0 failed ∷ ticks 29))) ≡ IDLE) × (westRequest (after held (callsFor (link 0 failed ∷ ticks 30))) ≡ SF)
 unfolding started after ticks westRequest
 P6-in-ticks = (
-  idle-meanwhile held 0 (omega arith) [] (call (link 0 failed)) failed failing refl refl (omega arith) (callsFor (ticks 29)) (unlinked .0)
+  idle-meanwhile held 0 (omega arith) [] (call (link 0 failed)) failed failing refl refl refl (omega arith) (callsFor (ticks 29)) (unlinked .0)
       (omega (arith, counted .0)) link-decides,
-  failed-then held 0 (omega arith) [] (call (link 0 failed)) failed failing refl refl (omega arith) (callsFor (ticks 30)) (unlinked .1) refl
+  failed-then held 0 (omega arith) [] (call (link 0 failed)) failed failing refl refl refl (omega arith) (callsFor (ticks 30)) (unlinked .1) refl
       (omega (arith, counted .1)) .1,
 )
 
@@ -95,6 +111,45 @@ unfolding startOf
 P6-of-all =
     subst (λ (c : Choice). (westRequest (after (started c) (callsFor (link 0 failed ∷ ticks 29))) ≡ IDLE)
     × (westRequest (after (started c) (callsFor (link 0 failed ∷ ticks 30))) ≡ SF)) (sym three-steps) P6-in-ticks
+
+-- 02, Item 2: "With 3 steps, failed at tick 0, degraded after tick 20 gives SD after tick 30", as one of the cases of its theorem; IDLE at 29.
+fading : readAs (station 1) (call (link 0 degraded)) ≡ Link 0 degraded
+unfolding reading
+fading = refl
+
+abbrev swung : ℕ → List Call
+swung later = callsFor (ticks later) ++ (call (link 0 degraded) ∷ (callsFor (ticks 20) ++ (call (link 0 failed) ∷ [])))
+
+-- 20, 9 and 10 ticks are taken, and no link record of the span is among them.
+parts-counted : (ticksTaken (station 1) (callsFor (ticks 20)) ≡ 20) × (ticksTaken (station 1) (callsFor (ticks 9)) ≡ 9) × (ticksTaken (station 1) (callsFor (ticks 10)) ≡ 10)
+unfolding ticksTaken ticks
+parts-counted = (refl, refl, refl)
+
+parts-unlinked : (linkTaken (station 1) 0 (callsFor (ticks 20)) ≡ false) × (linkTaken (station 1) 0 (callsFor (ticks 9)) ≡ false) × (linkTaken (station 1) 0 (callsFor (ticks 10)) ≡ false)
+unfolding someTaken ticks
+parts-unlinked = (refl, refl, refl)
+
+swing-decides : LinkDecides (held .choice .ticks) (spanAfter 0 held (swung 9)) × LinkDecides (held .choice .ticks) (spanAfter 0 held (swung 10))
+unfolding started after ticks
+swing-decides = (
+  record { alone = record { alive = omega arith; unmarked = refl }; unasked = refl; unwaited = refl },
+  record { alone = record { alive = omega arith; unmarked = refl }; unasked = refl; unwaited = refl },
+)
+
+swing-in-ticks : (westRequest (after held (callsFor (swings 9))) ≡ IDLE) × (westRequest (after held (callsFor (swings 10))) ≡ SD)
+unfolding started after ticks westRequest
+swing-in-ticks = (
+  idle-before held 0 (omega arith) [] (call (link 0 failed)) failing refl refl refl (callsFor (ticks 20)) (parts-unlinked .0) (omega (arith, parts-counted .0))
+      (call (link 0 degraded)) fading (callsFor (ticks 9)) (parts-unlinked .1) (omega (arith, parts-counted .0, parts-counted .1)) (swing-decides .0),
+  sd-then held 0 (omega arith) [] (call (link 0 failed)) failing refl refl refl (callsFor (ticks 20)) (parts-unlinked .0) (omega (arith, parts-counted .0))
+      (call (link 0 degraded)) fading (callsFor (ticks 10)) (parts-unlinked .2) (omega (arith, parts-counted .0, parts-counted .2)) (swing-decides .1),
+)
+
+pub swing-of-all : (westRequest (after (startOf (settings 2 3)) (callsFor (swings 9))) ≡ IDLE) × (westRequest (after (startOf (settings 2 3)) (callsFor (swings 10))) ≡ SD)
+unfolding startOf
+swing-of-all =
+    subst (λ (c : Choice). (westRequest (after (started c) (callsFor (swings 9))) ≡ IDLE) × (westRequest (after (started c) (callsFor (swings 10))) ≡ SD)) (sym three-steps)
+    swing-in-ticks
 
 -- Two ticks in silence, of a node whose keepalive setting is 2.
 abbrev impatient : State
@@ -139,7 +194,7 @@ unfolding reading
 goes = refl
 
 pub ms-met : after waits (call (operator 0 none) ∷ (meanwhile ++ (call (operator 0 MS) ∷ earlier))) .spans ≡ after waits (meanwhile ++ earlier) .spans
-unfolding started after operatorTaken addressAt
+unfolding started after someTaken addressAt
 ms-met =
     as-if-not-come 0 waits (started-swept (node 10000 0)) earlier (call (operator 0 MS)) meanwhile (call (operator 0 none)) MS comes goes (omega arith) refl refl
     .0
@@ -154,20 +209,6 @@ unfolding started after ticksTaken addressAt
 wtr-met = wtr-runs-beneath waits 0 earlier (call (operator 0 MS)) meanwhile (call (operator 0 none)) MS comes goes undisturbed
 
 -- The tick that ends a hold-off raises the automatic request from none to SF.
-ticks-met : TicksKept (node 0 10 .ticks)
-ticks-met = record {
-  wtr = omega arith;
-  holdoff = omega arith;
-  keepalive-low = omega arith;
-  keepalive = omega arith;
-  fast-low = omega arith;
-  fast = omega arith;
-  slow-low = omega arith;
-  slow = omega arith;
-  forget-low = omega arith;
-  forget = omega arith;
-}
-
 bytes-met : AllBytes (callsFor (link 0 failed ∷ ticks 9))
 unfolding allBytes ticks
 bytes-met = all-bytes (callsFor (link 0 failed ∷ ticks 9)) refl
@@ -178,7 +219,7 @@ ticking = refl
 
 pub rising-met : automaticOn 0 (after (started (node 0 10)) (callsFor (link 0 failed ∷ ticks 9)))
     ≤ automaticOn 0 (after (started (node 0 10)) (call tick ∷ callsFor (link 0 failed ∷ ticks 9)))
-rising-met = tick-never-lowers (node 0 10) ticks-met (callsFor (link 0 failed ∷ ticks 9)) bytes-met (call tick) ticking 0
+rising-met = tick-never-lowers (node 0 10) (ticks-met 10 (omega arith)) (callsFor (link 0 failed ∷ ticks 9)) bytes-met (call tick) ticking 0
 
 pub rising-is : (automaticOn 0 (after (started (node 0 10)) (callsFor (link 0 failed ∷ ticks 9))) ≡ none)
     × (automaticOn 0 (after (started (node 0 10)) (call tick ∷ callsFor (link 0 failed ∷ ticks 9))) ≡ SF)

@@ -1,26 +1,29 @@
 -- The same of nodes of the program: b are settings bytes, st what start answered to them; calls stand latest first, and each met its contract. Assumes nothing.
 use Prim.Native.Nat.{ℕ, _-_, _<_, _≤_}
 use mathlib.Core.Path.{_≡_, refl, sym, _∙_, ap, subst}
-use mathlib.Core.Bool.{Bool, true, false, _||_, false≢true}
+use mathlib.Core.Bool.{Bool, true, false, _||_, true≢false, false≢true}
 use mathlib.Core.List.{List, [], _∷_, _++_}
 use native.Mathlib.Omega.{arith}
-use lib.Dec.{eqb}
-use borrow.Author.Tests.{eqb-true}
+use lib.Dec.{eqb, ltb}
+use borrow.Author.Tests.{eqb-true, ltb-false, lt-ltb, le-ltb}
 use Rattle.settings.specs.Reading.{settingsIn}
 use Rattle.spans.specs.declared.span.Span.{Span}
-use Rattle.spans.specs.Codes.{good, failed, FS, SF, IDLE, none, listed, higher}
+use Rattle.spans.specs.Codes.{good, failed, FS, SF, SD, IDLE, none, listed, higher}
 use Rattle.spans.specs.Kept.{SpanFair}
 use Rattle.spans.specs.HoldOff.{HeldOff, LinkDecides}
 use Rattle.controller.specs.declared.reading.Reading.the-variants.{Tick, Link, Operator}
 use Rattle.controller.specs.Node.{Started, choiceOf, stateOf}
-use Rattle.controller.specs.State.{State, spanOf, started}
+use Rattle.controller.specs.State.{Choice, State, spanOf, started}
 use Rattle.controller.specs.Kept.{StateKept}
 use Rattle.controller.specs.Promise.{Begun}
 use Rattle.promises.specs.History.{Call, after, Always, startOf, Made, callOf, callsOf, Met}
 use Rattle.promises.specs.Spans.{ownFrom, ticksFrom, seen, readAs, ticksTaken, linkTaken, operatorTaken, unasked, spanAfter, spanSeen}
 use Rattle.promises.specs.Spans.{requestOn, automaticOn, Unrequested, UnrequestedOn, Swept, SameBeneath}
+use Rattle.promises.specs.HoldOff.{asGoodTaken, statusTold}
+use Rattle.promises.proofs.demand2.AfterKept.{choice-after}
 use Rattle.promises.proofs.demand2.Coming.{state-after, ruled}
 use Rattle.promises.proofs.spans.HoldOff.{held-off, idle-meanwhile, failed-then}
+use Rattle.promises.proofs.spans.Swinging.{runs-on, switches, worse-requests}
 use Rattle.promises.proofs.spans.Purging.{started-swept}
 use Rattle.promises.proofs.spans.Beneath.{same-beneath, as-if-not-come}
 use Rattle.promises.proofs.spans.Running.{wtr-runs-on}
@@ -54,38 +57,91 @@ module _ (b : List ℕ) (st : Started) (begun : Begun b st) where
   seen-is : (h g : List Made) → Met st (h ++ g) → seen st (h ++ g) ≡ after (startOf b) (callsOf h ++ callsOf g)
   seen-is h g met = state-after b st begun (h ++ g) met ∙ ap (after (startOf b)) (calls-both h g)
 
+  -- A span of a node is in range, with the settings that start read.
+  fair-seen : (n : ℕ) (g : List Made) → Met st g → SpanFair (ticksFrom b) (spanSeen n st g)
+  unfolding startOf started
+  fair-seen n g met =
+      subst (λ (c : Choice). SpanFair (c .ticks) (spanSeen n st g))
+      (ap (λ (z : State). z .choice) (state-after b st begun g met) ∙ choice-after (startOf b) (callsOf g))
+      (span-fair n (seen st g) (ruled b st begun g met .kept .state))
+
   -- Hold-off: m is the link record, g the calls before it, h those after it.
   module _ (n : ℕ) (side : n ≤ 1) (g : List Made) (m : Made) (x : ℕ) (is : readAs (ownFrom b) (callOf m) ≡ Link n x) (h : List Made)
-      (met : Met st (h ++ (m ∷ g))) (u : linkTaken (ownFrom b) n (callsOf h) ≡ false) where
-    before : seen st g ≡ after (startOf b) (callsOf g)
-    unfolding Met
-    before = state-after b st begun g (met-before st h (m ∷ g) met .1)
+      (met : Met st (h ++ (m ∷ g))) where
+    abbrev told : List Call
+    told = callsOf h
 
-    later : seen st (h ++ (m ∷ g)) ≡ after (startOf b) (callsOf h ++ (callOf m ∷ callsOf g))
+    met-g : Met st g
+    unfolding Met
+    met-g = met-before st h (m ∷ g) met .1
+
+    before : seen st g ≡ after (startOf b) (callsOf g)
+    before = state-after b st begun g met-g
+
+    later : seen st (h ++ (m ∷ g)) ≡ after (startOf b) (told ++ (callOf m ∷ callsOf g))
     unfolding callsOf
     later = seen-is h (m ∷ g) met
 
-    pub node-held-off : (x ≡ spanSeen n st g .stored → ⊥) → spanSeen n st g .force < x
+    -- Hold-off runs exactly while a worse status is stored: where none runs, what is worse than the status in force differs from the stored one.
+    unstored : spanSeen n st g .holdoff ≡ 0 → spanSeen n st g .force < x → x ≡ spanSeen n st g .stored → ⊥
+    unstored calm worse e =
+        let u : Span = spanSeen n st g in
+        let fair : SpanFair (ticksFrom b) u = fair-seen n g met-g in
+        true≢false (sym (lt-ltb (u .force) (u .stored) (omega arith)) ∙ sym (fair .runs) ∙ le-ltb 0 (u .holdoff) (omega arith))
+
+    pub node-held-off : linkTaken (ownFrom b) n (callsOf h) ≡ false → spanSeen n st g .holdoff ≡ 0 → spanSeen n st g .force < x
         → HeldOff (ticksFrom b) (spanSeen n st g .force) x (ticksTaken (ownFrom b) (callsOf h)) (spanSeen n st (h ++ (m ∷ g)))
     unfolding startOf started
-    node-held-off =
+    node-held-off quiet calm worse =
         of-both
-        (λ (y z : State). (x ≡ spanOf n (y .spans) .stored → ⊥) → spanOf n (y .spans) .force < x
-        → HeldOff (ticksFrom b) (spanOf n (y .spans) .force) x (ticksTaken (ownFrom b) (callsOf h)) (spanOf n (z .spans)))
-        before later (λ other worse. held-off (startOf b) n side (callsOf g) (callOf m) x is other worse (callsOf h) u)
+        (λ (y z : State). spanOf n (y .spans) .holdoff ≡ 0 → (x ≡ spanOf n (y .spans) .stored → ⊥) → spanOf n (y .spans) .force < x
+        → HeldOff (ticksFrom b) (spanOf n (y .spans) .force) x (ticksTaken (ownFrom b) told) (spanOf n (z .spans)))
+        before later (λ none other low. held-off (startOf b) n side (callsOf g) (callOf m) x is none other low told quiet) calm (unstored calm worse) worse
 
-    -- From a good link.
-    module _ (stored : spanSeen n st g .stored ≡ good) (force : spanSeen n st g .force ≡ good) where
+    -- 02, Item 2: while the link tells nothing as good as what is in force, the time runs on, and the latest status is stored.
+    pub node-runs-on : spanSeen n st g .holdoff ≡ 0 → spanSeen n st g .force < x → asGoodTaken (ownFrom b) n (spanSeen n st g .force) (callsOf h) ≡ false
+        → ticksTaken (ownFrom b) (callsOf h) < ticksFrom b .holdoff
+        → HeldOff (ticksFrom b) (spanSeen n st g .force) (statusTold (ownFrom b) n x (callsOf h)) (ticksTaken (ownFrom b) (callsOf h)) (spanSeen n st (h ++ (m ∷ g)))
+    unfolding startOf started
+    node-runs-on calm worse swings more =
+        of-both
+        (λ (y z : State). spanOf n (y .spans) .holdoff ≡ 0 → (x ≡ spanOf n (y .spans) .stored → ⊥) → spanOf n (y .spans) .force < x
+        → asGoodTaken (ownFrom b) n (spanOf n (y .spans) .force) told ≡ false
+        → HeldOff (ticksFrom b) (spanOf n (y .spans) .force) (statusTold (ownFrom b) n x told) (ticksTaken (ownFrom b) told) (spanOf n (z .spans)))
+        before later (λ none other low bad. runs-on (startOf b) n side (callsOf g) (callOf m) x is none other low told bad more) calm (unstored calm worse) worse swings
+
+    -- .. and within the hold-off time a worse status is in force, and requested: SD, or SF.
+    pub node-switches-in-time : spanSeen n st g .force < x → asGoodTaken (ownFrom b) n (spanSeen n st g .force) (callsOf h) ≡ false
+        → ticksFrom b .holdoff ≤ ticksTaken (ownFrom b) (callsOf h)
+        → (spanSeen n st g .force < spanSeen n st (h ++ (m ∷ g)) .force) × (SD ≤ automaticOn n (seen st (h ++ (m ∷ g))))
+    unfolding startOf started
+    node-switches-in-time worse swings over =
+        let switched : spanSeen n st g .force < spanSeen n st (h ++ (m ∷ g)) .force =
+        of-both
+        (λ (y z : State). SpanFair (ticksFrom b) (spanOf n (y .spans)) → spanOf n (y .spans) .force < x
+        → asGoodTaken (ownFrom b) n (spanOf n (y .spans) .force) told ≡ false → spanOf n (y .spans) .force < spanOf n (z .spans) .force)
+        before later (λ fair low bad. switches (startOf b) n side (callsOf g) fair (callOf m) x is low told bad over) (fair-seen n g met-g) worse swings in
+        let fair = span-fair n (seen st (h ++ (m ∷ g))) (ruled b st begun (h ++ (m ∷ g)) met .kept .state) in
+        (switched, worse-requests (seen st (h ++ (m ∷ g)) .choice .ticks) (spanSeen n st (h ++ (m ∷ g))) (fair .force) (omega arith))
+
+    -- From a good link, which then tells nothing.
+    module _ (u : linkTaken (ownFrom b) n (callsOf h) ≡ false) (stored : spanSeen n st g .stored ≡ good) (force : spanSeen n st g .force ≡ good) where
       link : (part : Span → ℕ) → part (spanSeen n st g) ≡ good → part (spanOf n (after (startOf b) (callsOf g) .spans)) ≡ good
       link part e = ap (λ (z : State). part (spanOf n (z .spans))) (sym before) ∙ e
+
+      calm : spanSeen n st g .holdoff ≡ 0
+      calm =
+          let v : Span = spanSeen n st g in
+          let still : ltb 0 (v .holdoff) ≡ false = fair-seen n g met-g .runs ∙ le-ltb (v .force) (v .stored) (omega arith) in
+          omega (arith, ltb-false 0 (v .holdoff) still)
 
       pub node-idle-meanwhile : good < x → ticksTaken (ownFrom b) (callsOf h) < ticksFrom b .holdoff → LinkDecides (ticksFrom b) (spanSeen n st (h ++ (m ∷ g)))
           → requestOn n (seen st (h ++ (m ∷ g))) ≡ IDLE
       unfolding startOf started
       node-idle-meanwhile worse more =
           subst (λ (z : State). LinkDecides (ticksFrom b) (spanOf n (z .spans)) → requestOn n z ≡ IDLE) (sym later)
-          (idle-meanwhile (startOf b) n side (callsOf g) (callOf m) x is (link (λ (z : Span). z .stored) stored) (link (λ (z : Span). z .force) force) worse
-          (callsOf h) u more)
+          (idle-meanwhile (startOf b) n side (callsOf g) (callOf m) x is (link (λ (z : Span). z .holdoff) calm) (link (λ (z : Span). z .stored) stored)
+          (link (λ (z : Span). z .force) force) worse told u more)
 
       -- SF, unless the operator asks for FS.
       pub node-failed-then : x ≡ failed → ticksFrom b .holdoff ≤ ticksTaken (ownFrom b) (callsOf h)
@@ -96,8 +152,8 @@ module _ (b : List ℕ) (st : Started) (begun : Begun b st) where
           let both : (automaticOn n (seen st (h ++ (m ∷ g))) ≡ SF)
           × (requestOn n (seen st (h ++ (m ∷ g))) ≡ higher (spanSeen n st (h ++ (m ∷ g)) .operator) SF) =
           subst (λ (z : State). (automaticOn n z ≡ SF) × (requestOn n z ≡ higher (spanOf n (z .spans) .operator) SF)) (sym later)
-          (failed-then (startOf b) n side (callsOf g) (callOf m) x is (link (λ (z : Span). z .stored) stored) (link (λ (z : Span). z .force) force) (omega arith)
-          (callsOf h) u bad over) in
+          (failed-then (startOf b) n side (callsOf g) (callOf m) x is (link (λ (z : Span). z .holdoff) calm) (link (λ (z : Span). z .stored) stored)
+          (link (λ (z : Span). z .force) force) (omega arith) told u bad over) in
           let kept : SpanFair (seen st (h ++ (m ∷ g)) .choice .ticks) (spanSeen n st (h ++ (m ∷ g))) =
           span-fair n (seen st (h ++ (m ∷ g))) (ruled b st begun (h ++ (m ∷ g)) met .kept .state) in
           (both .0, λ free. both .1 ∙ below-sf (spanSeen n st (h ++ (m ∷ g)) .operator) (kept .operator) free)
