@@ -18,6 +18,7 @@ static uint64_t set_up_peer(uint32_t stations, uint32_t which, uint32_t calls) {
 static const struct { const char *op; run *proved, *peer; } runs[] = {
     {"setup", set_up_proved, set_up_peer},
     {"record", bench_record, peer_record},
+    {"ticks", bench_ticks, peer_ticks},
     {"steer", bench_steer, peer_steer},
     {"attributes", bench_attributes, peer_attributes},
     {"free", bench_free, peer_free},
@@ -37,7 +38,7 @@ static uint32_t number(const char *word) { return (uint32_t)strtoul(word, NULL, 
 int main(int count, char **words) {
     run *what = count == 6 ? named(words[1], words[2]) : NULL;
     if (!what) {
-        fputs("usage: proved|c setup|record|steer|attributes|free STATIONS WHICH CALLS|stack\n", stderr);
+        fputs("usage: proved|c setup|record|ticks|steer|attributes|free STATIONS WHICH CALLS|stack\n", stderr);
         return 2;
     }
     if (strcmp(words[5], "stack") == 0) show_stack(what, number(words[3]), number(words[4]));

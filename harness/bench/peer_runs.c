@@ -38,7 +38,7 @@ static struct packed record_of(uint32_t stations, uint32_t which) {
     case 5: return attributes();
     case 6: return brief(4, 2, 0, 0);
     case 7: return brief(4, 4, 1, 0);
-    case 8: return brief(2, 7, 0, 0);
+    case 8: return brief(2, 8, 0, 0);
     case 9: return report(0, 1, 0, 255);
     default: return (struct packed){{0}, 0};
     }
@@ -54,12 +54,21 @@ static uint64_t address_of(uint32_t stations, uint32_t which) {
     }
 }
 
-/* The result, and 256 for a report that was written. */
-static uint64_t take(struct ring *r, const struct packed *record) {
+/* The result, and 256 for each report that was written. */
+static uint64_t take_in(struct ring *r, const struct packed *record, uint8_t *out, size_t room) {
+    int reports, result = ring_record(r, record->bytes, record->length, out, room, &reports);
+    return (uint64_t)result + 256 * (uint64_t)reports;
+}
+
+static void take(struct ring *r, const struct packed *record) {
     uint8_t out[REPORT_BYTES];
-    bool wrote;
-    int result = ring_record(r, record->bytes, record->length, out, sizeof out, &wrote);
-    return (uint64_t)result + (wrote ? 256 : 0);
+    take_in(r, record, out, sizeof out);
+}
+
+static uint64_t carry(struct ring *r, const struct packed *record, uint8_t *out, size_t room, uint32_t calls) {
+    uint64_t sum = 0;
+    for (uint32_t left = calls; left > 0; left--) sum += take_in(r, record, out, room);
+    return sum;
 }
 
 static void take_all(struct ring *r, const struct packed *records, size_t count) {
@@ -99,10 +108,17 @@ uint64_t peer_setup(uint32_t stations) {
 uint64_t peer_record(uint32_t stations, uint32_t which, uint32_t calls) {
     const struct packed record = record_of(capped(stations), which);
     struct ring r;
-    uint64_t sum = 0;
+    uint8_t out[REPORT_BYTES];
     ready(&r, capped(stations), which);
-    for (uint32_t left = calls; left > 0; left--) sum += take(&r, &record);
-    return sum;
+    return carry(&r, &record, out, sizeof out, calls);
+}
+
+uint64_t peer_ticks(uint32_t stations, uint32_t many, uint32_t calls) {
+    const struct packed record = brief(4, 7, (uint8_t)many, (uint8_t)(many >> 8));
+    struct ring r;
+    uint8_t out[OUTPUT_BYTES];
+    set_up(&r, capped(stations));
+    return carry(&r, &record, out, sizeof out, calls);
 }
 
 uint64_t peer_steer(uint32_t stations, uint32_t which, uint32_t calls) {

@@ -9,11 +9,11 @@ typedef uint64_t run(uint32_t stations, uint32_t which, uint32_t calls);
 
 /* The proved controller: crates/bench says what each number asks for. */
 setup bench_setup;
-run bench_record, bench_steer, bench_attributes, bench_free;
+run bench_record, bench_ticks, bench_steer, bench_attributes, bench_free;
 
 /* The plain C one. */
 setup peer_setup;
-run peer_record, peer_steer, peer_attributes, peer_free;
+run peer_record, peer_ticks, peer_steer, peer_attributes, peer_free;
 
 /* Prints the bytes of stack that a run's calls need, with the loop around them and its node, and ends the program. */
 void show_stack(run *what, uint32_t stations, uint32_t which);

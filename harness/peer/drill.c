@@ -11,10 +11,9 @@ static void answer(const struct ring *r, int number) {
 }
 
 static void take(struct ring *r, int number) {
-    uint8_t out[REPORT_BYTES];
-    bool wrote;
-    int result = ring_record(r, record, length, out, sizeof out, &wrote);
-    printf("%d %d %d %d %d %d %d\n", number, result, ring_request(r, WEST), ring_request(r, EAST), r->pacer.sequence, r->stations, wrote);
+    uint8_t out[OUTPUT_BYTES];
+    int reports, result = ring_record(r, record, length, out, sizeof out, &reports);
+    printf("%d %d %d %d %d %d %d\n", number, result, ring_request(r, WEST), ring_request(r, EAST), r->pacer.sequence, r->stations, reports);
 }
 
 int main(void) {

@@ -19,9 +19,9 @@ static void tell(struct free_bandwidth free) {
 }
 
 static void take(struct ring *r) {
-    uint8_t out[REPORT_BYTES];
-    bool wrote;
-    ring_record(r, record, length, out, sizeof out, &wrote);
+    uint8_t out[OUTPUT_BYTES];
+    int reports;
+    ring_record(r, record, length, out, sizeof out, &reports);
 }
 
 int main(void) {

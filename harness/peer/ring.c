@@ -4,7 +4,7 @@
 
 enum { IDLE = 0, WTR = 1, MS = 2, SD = 3, SF = 4, FS = 5 };
 enum { GOOD = 0, DEGRADED = 1, FAILED = 2 };
-enum { TICK = 1, LINK = 2, KEEPALIVE = 3, OPERATOR = 4, REPORT = 5, ATTRIBUTES = 6, SETTINGS = 32, SHORT_SETTINGS = 33 };
+enum { TICK = 1, LINK = 2, KEEPALIVE = 3, OPERATOR = 4, REPORT = 5, ATTRIBUTES = 6, TICKS = 7, SETTINGS = 32, SHORT_SETTINGS = 33 };
 enum { FAST_REPORTS = 8, LONGEST = 1033, HEAD = 4, FARTHEST_HOP = 63, OLDEST_NEWER = 128 };
 
 /* Numbers returned for a record. 1 to 8 are refusals. */
@@ -315,23 +315,37 @@ static int take(struct ring *r, unsigned kind, const uint8_t *body, size_t bytes
     }
 }
 
-int ring_record(struct ring *r, const uint8_t *record, size_t length, uint8_t *out, size_t room, bool *wrote) {
-    static const uint8_t body_bytes[] = {[TICK] = 0, [LINK] = 2, [KEEPALIVE] = 1, [OPERATOR] = 2, [REPORT] = 12, [ATTRIBUTES] = 7};
-    *wrote = false;
+/* An event, with its closing steps; a report goes to the front of the output. */
+static int take_and_close(struct ring *r, unsigned kind, const uint8_t *body, size_t bytes, uint8_t *out, int *reports) {
+    const int before[2] = {automatic(r, WEST), automatic(r, EAST)};
+    int result = take(r, kind, body, bytes);
+    if (in_range(result, NO_ROOM, MALFORMED)) return result;
+    *reports += close_event(r, before, kind == TICK, out);
+    return result;
+}
+
+/* So many ticks; their reports stand one behind the other. */
+static int take_ticks(struct ring *r, unsigned ticks, uint8_t *out, size_t room, int *reports) {
+    if (!in_range(ticks, 1, MOST_TICKS)) return BAD_BODY;
+    if (room < ticks * REPORT_BYTES) return NO_ROOM;
+    for (unsigned left = ticks; left > 0; left--) take_and_close(r, TICK, NULL, 0, out + *reports * REPORT_BYTES, reports);
+    return TAKEN;
+}
+
+int ring_record(struct ring *r, const uint8_t *record, size_t length, uint8_t *out, size_t room, int *reports) {
+    static const uint8_t body_bytes[] = {[TICK] = 0, [LINK] = 2, [KEEPALIVE] = 1, [OPERATOR] = 2, [REPORT] = 12, [ATTRIBUTES] = 7, [TICKS] = 2};
+    *reports = 0;
     if (room < REPORT_BYTES) return NO_ROOM;
     int refused = head(record, length);
     if (refused) return refused;
     unsigned kind = low_first(record + 2);
     const uint8_t *body = record + HEAD;
     size_t bytes = length - HEAD;
-    if (kind < TICK || kind > ATTRIBUTES) return BAD_KIND;
+    if (kind < TICK || kind > TICKS) return BAD_KIND;
     if (kind == ATTRIBUTES ? bytes < body_bytes[kind] : bytes != body_bytes[kind]) return BAD_BODY;
+    if (kind == TICKS) return take_ticks(r, low_first(body), out, room, reports);
     if (kind != TICK && body[0] > EAST) return BAD_BODY;
-    const int before[2] = {automatic(r, WEST), automatic(r, EAST)};
-    int result = take(r, kind, body, bytes);
-    if (in_range(result, NO_ROOM, MALFORMED)) return result;
-    *wrote = close_event(r, before, kind == TICK, out);
-    return result;
+    return take_and_close(r, kind, body, bytes, out, reports);
 }
 
 /* The way to a station. */

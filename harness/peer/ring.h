@@ -6,7 +6,7 @@
 #include <stddef.h>
 #include <stdint.h>
 
-enum { PLACES = 63, REPORT_BYTES = 7, RECORD_BYTES = 1035 };
+enum { PLACES = 63, REPORT_BYTES = 7, MOST_TICKS = 1000, OUTPUT_BYTES = MOST_TICKS * REPORT_BYTES, RECORD_BYTES = 1035 };
 
 /* Spans and the ringlets that they hear. */
 enum { WEST = 0, EAST = 1 };
@@ -72,7 +72,7 @@ struct free_bandwidth {
 };
 
 int ring_start(struct ring *r, const uint8_t *record, size_t length);
-int ring_record(struct ring *r, const uint8_t *record, size_t length, uint8_t *out, size_t room, bool *wrote);
+int ring_record(struct ring *r, const uint8_t *record, size_t length, uint8_t *out, size_t room, int *reports);
 int ring_request(const struct ring *r, int side);
 int ring_steer(const struct ring *r, uint64_t address);
 struct shown ring_attributes(const struct ring *r, uint64_t address);

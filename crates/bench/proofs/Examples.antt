@@ -17,13 +17,13 @@ use Rattle.stations.specs.Rows.{image, tableIn}
 use Rattle.ways.specs.Choice.{number}
 use Rattle.controller.specs.Node.{Node, stateOf, startedWith, steered}
 use Rattle.controller.specs.Own.{ownOf}
-use Rattle.controller.specs.Record.{outcome}
-use Rattle.bench.specs.Records.{recordOf}
-use Rattle.bench.specs.Ring.{taken, joined, ringTo, ringOf, parted, forced}
+use Rattle.controller.specs.Record.{outcomes}
+use Rattle.bench.specs.Records.{ticks, recordOf}
+use Rattle.bench.specs.Ring.{takenIn, taken, joined, ringTo, ringOf, parted, forced}
 use Rattle.bench.specs.Runs.{told, station, addressee, standing, readied}
 
 unfoldable pub three : Node
-unfolding ringOf ringTo joined taken startedWith settingsIn headOf broken fullIn fieldsOf inRange addressAt ownOf tableOf image tableIn ticksOf blank reportBytes outcome
+unfolding ringOf ringTo joined taken startedWith settingsIn headOf broken fullIn fieldsOf inRange addressAt ownOf tableOf image tableIn ticksOf blank reportBytes outcomes
 three = ringOf 3
 
 -- The hops of each station, ringlet 0 first.
@@ -62,6 +62,11 @@ three-left = refl
 pub three-results : results 11 ≡ 2 ∷ 0 ∷ 3 ∷ 0 ∷ 0 ∷ 0 ∷ 0 ∷ 0 ∷ 0 ∷ 0 ∷ 0 ∷ []
 unfolding three results readied parted recordOf cut sound known among knows good has behind
 three-results = refl
+
+-- Three ticks in one record write nothing: the first report is due at the tenth.
+pub three-ticks : told (takenIn 7000 three (ticks 3)) ≡ 0
+unfolding three takenIn
+three-ticks = refl
 
 -- No way where both spans are forced; nobody; east to the farthest on ringlet 0; west to the middle and to the nearest.
 pub three-replies : replies 5 ≡ 2 ∷ 3 ∷ 1 ∷ 0 ∷ 0 ∷ []

@@ -1,5 +1,5 @@
 -- The fixed records of the runs. An address is 02-00-00-00-high-low.
-use Prim.Native.Nat.{ℕ, _+_, _-_, _/_, _≤_}
+use Prim.Native.Nat.{ℕ, _+_, _-_, _/_, _%_, _≤_}
 use mathlib.Core.Path.{_≡_}
 use mathlib.Core.Bool.{cond}
 use mathlib.Core.List.{List, [], _∷_}
@@ -25,7 +25,11 @@ operator span request = 4 ∷ 0 ∷ 4 ∷ 0 ∷ span ∷ request ∷ []
 
 -- A kind that no call takes.
 abbrev pub unknown : List ℕ
-unknown = 2 ∷ 0 ∷ 7 ∷ 0 ∷ []
+unknown = 2 ∷ 0 ∷ 8 ∷ 0 ∷ []
+
+-- So many ticks in one record.
+abbrev pub ticks : ℕ → List ℕ
+ticks n = 4 ∷ 0 ∷ 7 ∷ 0 ∷ (n % 256) ∷ (n / 256 % 256) ∷ []
 
 -- Heard on the span of its ringlet, at a hop, with sequence 1, idle.
 abbrev pub report : ℕ → ℕ → ℕ → ℕ → List ℕ

@@ -4,17 +4,21 @@ use mathlib.Core.Path.{_≡_}
 use mathlib.Core.Bool.{cond}
 use mathlib.Core.List.{List}
 use lib.Dec.{eqb, ltb}
-use Rattle.controller.specs.Record.{outcome}
+use Rattle.controller.specs.Record.{outcomes}
 use Rattle.controller.specs.Node.{Node, Answer, stateOf, startedWith, answerOf}
 use Rattle.controller.specs.Kept.{Kept}
 use Rattle.bench.specs.Records.{settings, operator, report}
 
--- A record taken, with room for the seven bytes of a report.
-unfoldable pub taken : Node → List ℕ → Answer
-taken n b = answerOf n (outcome (stateOf n) b 7)
+-- A record taken, with so much room; and with room for the seven bytes of a report.
+unfoldable pub takenIn : ℕ → Node → List ℕ → Answer
+takenIn room n b = answerOf n (outcomes (stateOf n) b room)
 
-pub record Took (n : Node) (b : List ℕ) (a : Answer) : Type 0 where
-  pub is : a ≡ taken n b
+unfoldable pub taken : Node → List ℕ → Answer
+unfolding takenIn
+taken n b = takenIn 7 n b
+
+pub record Took (room : ℕ) (n : Node) (b : List ℕ) (a : Answer) : Type 0 where
+  pub is : a ≡ takenIn room n b
   pub kept : Kept (a .node)
 
 -- A number above 63 counts as 63.

@@ -1,5 +1,5 @@
 -- What the runs add up.
-use Prim.Native.Nat.{ℕ, zero, suc, _+_}
+use Prim.Native.Nat.{ℕ, zero, suc, _+_, _*_}
 use mathlib.Core.Bool.{cond}
 use mathlib.Core.List.{List}
 use lib.Dec.{eqb, ltb}
@@ -7,16 +7,16 @@ use Rattle.controller.specs.declared.ask.Shown.{Shown}
 use Rattle.controller.specs.Node.{Node, Answer}
 use Rattle.bandwidth.specs.declared.free.Free.{Free}
 use Rattle.bench.specs.Records.{middle}
-use Rattle.bench.specs.Ring.{taken, ringOf, parted, forced}
+use Rattle.bench.specs.Ring.{takenIn, ringOf, parted, forced}
 
--- The result, and 256 for a report that was written.
+-- The result, and 256 for each report that was written.
 abbrev pub told : Answer → ℕ
-told a = a .result + cond (a .wrote) 256 0
+told a = a .result + 256 * a .reports
 
--- The same record so many times, each with the node that the one before left.
-unfoldable pub carried : List ℕ → ℕ → Node → ℕ
-carried b zero n = 0
-carried b (suc left) n = told (taken n b) + carried b left (taken n b .node)
+-- The same record so many times, each with the same room and with the node that the one before left.
+unfoldable pub carried : ℕ → List ℕ → ℕ → Node → ℕ
+carried room b zero n = 0
+carried room b (suc left) n = told (takenIn room n b) + carried room b left (takenIn room n b .node)
 
 -- The reply to a question for attributes, and the first weight.
 abbrev pub weighed : Shown → ℕ

@@ -1,6 +1,7 @@
 // What a benchmark calls.
 use crate::records::middle;
 use crate::records::record_of;
+use crate::records::ticks;
 use crate::ring::capped;
 use crate::ring::force;
 use crate::ring::part;
@@ -17,7 +18,7 @@ ghost use lib.ListN.{length};
 ghost use Rattle.ways.specs.Choice.{number};
 ghost use Rattle.controller.specs.Node.{node, stateOf, steered, asked};
 ghost use Rattle.bandwidth.specs.Free.{freeBandwidth};
-ghost use Rattle.bench.specs.Records.{recordOf};
+ghost use Rattle.bench.specs.Records.{ticks, recordOf};
 ghost use Rattle.bench.specs.Ring.{Stands, capped, ringOf};
 ghost use Rattle.bench.specs.Runs.{carried, weighed, freed, station, addressee, standing, readied};
 
@@ -50,7 +51,7 @@ fn ready(own: &mut [u64; OWN_WORDS], rows: &mut [u64; ROW_WORDS], stations: u8, 
 // Ticks carried: at the 50th without a keepalive both spans go down and the table is emptied.
 #[no_mangle]
 pub extern "C" fn bench_record(stations: u32, which: u32, calls: u32) -> u64
-    ensures { λ r. ⌜ r ≡ carried (recordOf (capped stations) which) calls (readied (capped stations) which) ⌝ }
+    ensures { λ r. ⌜ r ≡ carried 7 (recordOf (capped stations) which) calls (readied (capped stations) which) ⌝ }
 {
     let s = capped(stations);
     let chosen = record_of(s, which);
@@ -58,8 +59,24 @@ pub extern "C" fn bench_record(stations: u32, which: u32, calls: u32) -> u64
     let end = chosen.length;
     let mut own = [0; OWN_WORDS];
     let mut rows = [0; ROW_WORDS];
+    let mut out = [0u8; 7];
     ready(&mut own, &mut rows, s, which);
-    carry(&mut own, &mut rows, &bytes[..end], calls)
+    carry(&mut own, &mut rows, &bytes[..end], &mut out, calls)
+}
+
+// The ring, then `calls` times so many ticks in one record, with room for 1,000 reports.
+#[no_mangle]
+pub extern "C" fn bench_ticks(stations: u32, many: u32, calls: u32) -> u64
+    ensures { λ r. ⌜ r ≡ carried 7000 (ticks many) calls (ringOf (capped stations)) ⌝ }
+{
+    let chosen = ticks(many);
+    let bytes = chosen.bytes;
+    let end = chosen.length;
+    let mut own = [0; OWN_WORDS];
+    let mut rows = [0; ROW_WORDS];
+    let mut out = [0u8; 7000];
+    ring(&mut own, &mut rows, capped(stations));
+    carry(&mut own, &mut rows, &bytes[..end], &mut out, calls)
 }
 
 // 02-00-00-00-01-k.

@@ -11,3 +11,4 @@ pub use exports::bench_free;
 pub use exports::bench_record;
 pub use exports::bench_setup;
 pub use exports::bench_steer;
+pub use exports::bench_ticks;

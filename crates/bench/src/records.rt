@@ -3,7 +3,7 @@ ghost use mathlib.Core.Path.{_≡_};
 ghost use mathlib.Core.List.{_∷_};
 ghost use Prim.Native.Nat.{_+_, _-_, _≤_};
 ghost use lib.ListN.{replicate};
-ghost use Rattle.bench.specs.Records.{report, attributes, middle, recordOf, Holds};
+ghost use Rattle.bench.specs.Records.{report, attributes, ticks, middle, recordOf, Holds};
 
 // A record at the front of 25 bytes, the length of the longest here.
 #[repr(C)]
@@ -75,6 +75,13 @@ fn attributes(high: u8, low: u8) -> Packed
     Packed { bytes, length: 25 }
 }
 
+// So many ticks in one record, of which the two low bytes count.
+pub(crate) fn ticks(n: u32) -> Packed
+    ensures { λ r. ⌜ Holds (ticks n) r ⌝ }
+{
+    brief(4, 7, (n % 256) as u8, (n / 256 % 256) as u8)
+}
+
 // The station in the middle of a ring.
 pub(crate) fn middle(stations: u8) -> u8
     ensures { λ r. ⌜ r ≡ middle stations ⌝ }
@@ -96,7 +103,7 @@ pub(crate) fn record_of(stations: u8, which: u32) -> Packed
         5 => attributes(1, 1),
         6 => brief(4, 2, 0, 0),
         7 => brief(4, 4, 1, 0),
-        8 => brief(2, 7, 0, 0),
+        8 => brief(2, 8, 0, 0),
         9 => report(0, 1, 0, 255),
         _ => Packed {
             bytes: [0; 25],

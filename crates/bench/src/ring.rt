@@ -24,7 +24,7 @@ pub(crate) fn take(
     bytes: &[u8],
 ) -> Returned
     requires { ⌜ Kept (node (now own) (now rows)) ⌝ }
-    ensures { λ a. ⌜ Took (node (now (own .entry)) (now (rows .entry))) (now (bytes .entry)) (answerIn (now (own .exit)) (now (rows .exit)) a) ⌝ }
+    ensures { λ a. ⌜ Took 7 (node (now (own .entry)) (now (rows .entry))) (now (bytes .entry)) (answerIn (now (own .exit)) (now (rows .exit)) a) ⌝ }
 {
     let mut out = [0u8; 7];
     controller::take_record(own, rows, bytes, &mut out)

@@ -1,5 +1,4 @@
 // The loops of the runs: one record, or one question, many times.
-use crate::ring::take;
 use controller::OWN_WORDS;
 use controller::ROW_WORDS;
 ghost use mathlib.Core.Path.{_≡_};
@@ -8,35 +7,27 @@ ghost use Prim.Native.Nat.{_+_, _*_, _^_, _<_};
 ghost use Rattle.ways.specs.Choice.{number};
 ghost use Rattle.controller.specs.Kept.{Kept};
 ghost use Rattle.controller.specs.Node.{node, stateOf, steered, asked};
+ghost use lib.ListN.{length};
 ghost use Rattle.bandwidth.specs.Free.{freeBandwidth};
-ghost use Rattle.bench.specs.Runs.{told, carried, weighed, freed};
+ghost use Rattle.bench.specs.Runs.{carried, weighed, freed};
 
-// The result, and 256 for a report that was written.
-fn told(result: u8, wrote: bool) -> u64
-    ensures { λ r. ⌜ (r ≡ result + cond wrote 256 0) × (r < 512) ⌝ }
-{
-    if wrote {
-        return result as u64 + 256;
-    }
-    result as u64
-}
-
-// The same record many times, each with the node that the one before left.
+// The same record many times, each with the node that the one before left: the results, and 256 for each report that was written.
 pub(crate) fn carry(
     own: &mut [u64; OWN_WORDS],
     rows: &mut [u64; ROW_WORDS],
     bytes: &[u8],
+    out: &mut [u8],
     calls: u32,
 ) -> u64
     requires { ⌜ Kept (node (now own) (now rows)) ⌝ }
-    ensures { λ r. ⌜ r ≡ carried (now (bytes .entry)) calls (node (now (own .entry)) (now (rows .entry))) ⌝ }
+    ensures { λ r. ⌜ r ≡ carried (length (now (out .entry))) (now (bytes .entry)) calls (node (now (own .entry)) (now (rows .entry))) ⌝ }
 {
     let mut left = calls;
     let mut sum: u64 = 0;
     while 0 < left {
         left -= 1;
-        let a = take(own, rows, bytes);
-        sum += told(a.result, a.wrote);
+        let a = controller::take_record(own, rows, bytes, out);
+        sum += a.result as u64 + 256 * a.reports as u64;
     }
     sum
 }
@@ -102,6 +93,16 @@ pub(crate) fn show_all(
         sum += shown_sum(own, rows, still(address, sum));
     }
     sum
+}
+
+// The result, and 256 for the defect.
+fn told(result: u8, excess: bool) -> u64
+    ensures { λ r. ⌜ (r ≡ result + cond excess 256 0) × (r < 512) ⌝ }
+{
+    if excess {
+        return result as u64 + 256;
+    }
+    result as u64
 }
 
 // What is left of a link rate, of which the node has 1 and 2: the result, and 256 for the defect.

@@ -12,3 +12,5 @@ pub mod Handing
 pub mod Sweeping
 pub mod Records
 pub mod Asking
+pub mod Manys
+pub mod Ticking

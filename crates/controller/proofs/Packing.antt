@@ -253,10 +253,10 @@ paced-still fast slow tick west east p h = go tick (eqb (p .west) west) (eqb (p 
     go false false b q = absurd (false≢true q)
 
 reported : (tick : Bool) {w w′ old new : List ℕ} (d : Paced) → d ≡ pacedIn tick w → w′ ≡ ownOf (settingsOn w) (spansOn w) (d .pacer) → new ≡ over (reportOf d) old → PacerFits (d .pacer)
-    → Reported tick w w′ old new (d .wrote)
+    → Reported tick w w′ old new (cond (d .wrote) 1 0)
 reported tick {w} {w′} {old} {new} d ed ew en f = record {
   words = ew ∙ ap (λ (q : Paced). ownOf (settingsOn w) (spansOn w) (q .pacer)) ed;
-  wrote = ap (λ (q : Paced). q .wrote) ed;
+  number = ap (λ (q : Paced). cond (q .wrote) 1 0) ed;
   content = en ∙ ap (λ (q : Paced). over (reportOf q) old) ed;
   fits = subst (λ (q : Paced). PacerFits (q .pacer)) ed f;
 }
@@ -270,12 +270,12 @@ module _ (tick : Bool) {w : List ℕ} (h : OwnHeld w) {t : Ticks} {a b : Span} {
       (λ i. paced (t .fast) (t .slow) tick (ew i) (ee i) (ep i)) ∙ (λ i. pacing t tick (record { west = ea i; east = eb i }) (pacerOn w))
       ∙ (λ i. pacing (et i) tick (spansOn w) (pacerOn w))
 
-  pub reported-still : {old : List ℕ} → still tick west east p ≡ true → old ≡ over [] old → Reported tick w w old old false
+  pub reported-still : {old : List ℕ} → still tick west east p ≡ true → old ≡ over [] old → Reported tick w w old old 0
   reported-still quiet none =
       reported tick (record { pacer = p; wrote = false }) (paced-still (t .fast) (t .slow) tick west east p quiet ∙ paced-on)
       (h .whole ∙ ap (ownOf (settingsOn w) (spansOn w)) (sym ep)) none (subst PacerFits (sym ep) (on-pacer w))
 
   pub reported-paced : {w′ old new : List ℕ} (d : Paced) → d ≡ paced (t .fast) (t .slow) tick west east p → (w′ ≡ setPacer (d .pacer) w) × PacerFits (d .pacer) → new ≡ over (reportOf d) old
-      → Reported tick w w′ old new (d .wrote)
-  reported-paced d ed e en =
-      reported tick d (ed ∙ paced-on) (e .0 ∙ ap (setPacer (d .pacer)) (h .whole) ∙ set-pacer (d .pacer) (settingsOn w) (spansOn w) (pacerOn w)) en (e .1)
+      → {reports : ℕ} → reports ≡ cond (d .wrote) 1 0 → Reported tick w w′ old new reports
+  reported-paced d ed e en number =
+      rw number (reported tick d (ed ∙ paced-on) (e .0 ∙ ap (setPacer (d .pacer)) (h .whole) ∙ set-pacer (d .pacer) (settingsOn w) (spansOn w) (pacerOn w)) en (e .1))

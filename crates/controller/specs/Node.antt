@@ -1,10 +1,9 @@
 -- The node as the program keeps it, in words that the caller lends, and what its calls answer.
-use Prim.Native.Nat.{ℕ}
-use mathlib.Core.Bool.{Bool, cond}
+use Prim.Native.Nat.{ℕ, _/_}
+use mathlib.Core.Bool.{cond}
 use mathlib.Core.List.{List}
 use mathlib.Core.Option.{Option, none, some}
 use lib.ListN.{length}
-use lib.Dec.{ltb}
 use Rattle.settings.specs.declared.choice.Settings.{Settings}
 use Rattle.settings.specs.Reading.{settingsIn}
 use Rattle.spans.specs.Requests.{request}
@@ -36,16 +35,16 @@ pub record Started : Type 0 where
 pub record Answer : Type 0 where
   pub node : Node
   pub result : ℕ
-  pub wrote : Bool
+  pub reports : ℕ
 
 abbrev pub startedIn : List ℕ → List ℕ → ℕ → Started
 startedIn own rows result = record { node = node own rows; result = result }
 
-abbrev pub returned : ℕ → Bool → Returned
-returned result wrote = record { result = result; wrote = wrote }
+abbrev pub returned : ℕ → ℕ → Returned
+returned result reports = record { result = result; reports = reports }
 
 abbrev pub answerIn : List ℕ → List ℕ → Returned → Answer
-answerIn own rows r = record { node = node own rows; result = r .result; wrote = r .wrote }
+answerIn own rows r = record { node = node own rows; result = r .result; reports = r .reports }
 
 abbrev pub settingsOf : Node → Settings
 settingsOf n = settingsOn (n .own)
@@ -74,11 +73,12 @@ startedWith b = record {
   result = settingsIn b .result;
 }
 
-abbrev pub wrote : List ℕ → Bool
-wrote report = ltb 0 (length report)
+-- 02, Item 4: the reports, "with their number beside the result". Each has 7 bytes.
+abbrev pub reportsIn : List ℕ → ℕ
+reportsIn written = length written / 7
 
 abbrev pub answerOf : Node → Outcome → Answer
-answerOf n o = record { node = nodeIn n (o .state); result = o .result; wrote = wrote (o .report) }
+answerOf n o = record { node = nodeIn n (o .state); result = o .result; reports = reportsIn (o .report) }
 
 -- The span requests.
 unfoldable pub westRequest : State → ℕ

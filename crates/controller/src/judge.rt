@@ -100,7 +100,8 @@ fn learn(
     }
 }
 
-fn forget(rows: &mut [u64; ROW_WORDS], own: &[u64; OWN_WORDS]) -> u8
+// A tick, which every station sees.
+pub(crate) fn forget(rows: &mut [u64; ROW_WORDS], own: &[u64; OWN_WORDS]) -> u8
     requires { ⌜ RowsKept (now rows) × (ticksOn (now own) .forget < 2 ^ 16) ⌝ }
     ensures { λ r. ⌜ left (now (rows .exit)) r ≡ leftBy (gives 0 (aged (ticksOn (now (own .entry)) .forget) (stationsIn (now (rows .entry))))) ⌝ }
 {

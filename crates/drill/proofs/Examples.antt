@@ -49,6 +49,12 @@ pub asked : output (settingsRecord ++ report 7 ++ ask 2 2 ++ ask 2 3 ++ ask 1 2 
 unfolding output rows settingsIn headOf broken fullIn fieldsOf inRange addressAt tableOf image flat tableIn placesIn ownOf ticksOf blank reportBytes
 asked = refl
 
+-- Thirty ticks in one record: a report at the 10th, 20th and 30th, each with the sequence as it was; then no tick at all, which is refused.
+pub many-ticks : output (settingsRecord ++ (4 ∷ 0 ∷ 7 ∷ 0 ∷ 30 ∷ 0 ∷ []) ++ (4 ∷ 0 ∷ 7 ∷ 0 ∷ 0 ∷ 0 ∷ []))
+    ≡ rows ("1 0 0 0 0 0 3" ∷ "2 4 0 0 0 0 0" ∷ [])
+unfolding output rows settingsIn headOf broken fullIn fieldsOf inRange addressAt tableOf image flat tableIn placesIn ownOf ticksOf blank reportBytes
+many-ticks = refl
+
 -- A cut record, and a length of 1: the number and 2, and the end, whatever follows.
 pub cut-short : output (settingsRecord ++ tick ++ (4 ∷ 0 ∷ 2 ∷ 0 ∷ [])) ≡ rows ("1 0 0 0 0 0 0" ∷ "2 2" ∷ [])
 unfolding output rows settingsIn headOf broken fullIn fieldsOf inRange addressAt tableOf image flat tableIn placesIn ownOf ticksOf blank reportBytes

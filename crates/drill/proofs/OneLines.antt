@@ -10,11 +10,11 @@ use Rattle.wire.specs.Fields.{addressAt, oddFirst}
 use Rattle.wire.specs.Head.{kindOf, bodyOf}
 use Rattle.controller.specs.State.{State}
 use Rattle.controller.specs.Node.{Node, Answer, stateOf, answerOf, westRequest, eastRequest, steered}
-use Rattle.controller.specs.Record.{outcome}
+use Rattle.controller.specs.Record.{outcomes}
 use Rattle.ways.specs.Choice.{number}
 use Rattle.drill.specs.Text.{LF, space, digit, ascii, digitsOf, decimal, line, Plain, OneLine}
 use Rattle.drill.specs.Lines.{recordLine, refusedLine, wayLine, questionLine, settingsLine}
-use Rattle.drill.specs.Turns.{Step, stepped}
+use Rattle.drill.specs.Turns.{Step, room, stepped}
 
 plain-append : (a b : List ℕ) → Plain a → Plain b → Plain (a ++ b)
 plain-append [] b p q = q
@@ -62,7 +62,7 @@ pub record-one : (k : ℕ) (a : Answer) → OneLine (recordLine k a)
 unfolding recordLine
 record-one k a =
     let s = stateOf (a .node) in
-    numbers-one (k ∷ a .result ∷ westRequest s ∷ eastRequest s ∷ s .pacer .sequence ∷ length (s .stations) ∷ cond (a .wrote) 1 0 ∷ [])
+    numbers-one (k ∷ a .result ∷ westRequest s ∷ eastRequest s ∷ s .pacer .sequence ∷ length (s .stations) ∷ a .reports ∷ [])
 
 pub refused-one : (k result : ℕ) → OneLine (refusedLine k result)
 unfolding refusedLine
@@ -113,4 +113,4 @@ pick false x y p q = q
 pub step-one : (k : ℕ) (n : Node) (b : List ℕ) → OneLine (stepped k n b .line)
 unfolding stepped
 step-one k n b =
-    pick (eqb (kindOf b) 40) _ _ (question-one k (stateOf n) (bodyOf b)) (record-one k (answerOf n (outcome (stateOf n) b 7)))
+    pick (eqb (kindOf b) 40) _ _ (question-one k (stateOf n) (bodyOf b)) (record-one k (answerOf n (outcomes (stateOf n) b room)))

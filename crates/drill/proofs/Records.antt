@@ -1,7 +1,6 @@
 -- A record's line, from the seven numbers that make it. Assumes nothing.
 use Prim.Native.Nat.{ℕ, _+_}
 use mathlib.Core.Path.{_≡_, _∙_}
-use mathlib.Core.Bool.{cond}
 use mathlib.Core.List.{List, [], _∷_, _++_, append-assoc}
 use native.Mathlib.Omega.{arith}
 use lib.ListN.{length}
@@ -24,7 +23,7 @@ seven k a b c d e f = simp append-assoc
 
 pub record-lined : (k : ℕ) (a : Answer) (w e q m x : ℕ) {r1 r2 r3 r4 r5 r6 : ℕ} {l0 l1 l2 l3 l4 l5 l6 : List ℕ}
     → w ≡ westRequest (stateOf (a .node)) → e ≡ eastRequest (stateOf (a .node)) → q ≡ stateOf (a .node) .pacer .sequence
-    → m ≡ length (stateOf (a .node) .stations) → x ≡ cond (a .wrote) 1 0
+    → m ≡ length (stateOf (a .node) .stations) → x ≡ a .reports
     → Number k 32 0 l0 l1 r1 → Number (a .result) 32 r1 l1 l2 r2 → Pair w e r2 l2 l3 r3 → Number q 32 r3 l3 l4 r4
     → Number m 32 r4 l4 l5 r5 → Number x 10 r5 l5 l6 r6
     → Lined (recordLine k a) l0 l6 r6

@@ -11,11 +11,11 @@ use lib.Seq.{length-sets, length-take-le, sets-eq, take-at}
 use Rattle.wire.specs.Head.{kindOf, bodyOf, broken, headOf}
 use Rattle.settings.specs.Reading.{settingsIn}
 use Rattle.controller.specs.Node.{Node, Started, Answer, stateOf, startedWith, answerOf}
-use Rattle.controller.specs.Record.{outcome}
+use Rattle.controller.specs.Record.{outcomes}
 use Rattle.controller.specs.Kept.{Kept}
 use Rattle.controller.specs.Promise.{Begun}
 use Rattle.drill.specs.Lines.{recordLine, refusedLine, questionLine, settingsLine}
-use Rattle.drill.specs.Turns.{Read, nothing, cut, whole, Step, goesOn, ends, stepped, turned, begunWith, begun}
+use Rattle.drill.specs.Turns.{Read, nothing, cut, whole, Step, goesOn, ends, room, stepped, turned, begunWith, begun}
 use Rattle.drill.specs.Promise.{Lined, readAs, Within, Turning, turn, StartTold, Turned}
 use Rattle.drill.specs.declared.input.Input.{Input}
 use Rattle.drill.specs.declared.input.Input.the-variants.{Nothing, Cut, Whole}
@@ -38,12 +38,12 @@ unfolding stepped
 question-step k n b body h e kept p = rw (eq-eqb (kindOf b) 40 h, ← e) (spoken kept p)
 
 other-kind : (k : ℕ) (n : Node) (b : List ℕ) → (kindOf b ≡ 40 → ⊥)
-    → stepped k n b ≡ goesOn (answerOf n (outcome (stateOf n) b 7) .node) (recordLine k (answerOf n (outcome (stateOf n) b 7)))
+    → stepped k n b ≡ goesOn (answerOf n (outcomes (stateOf n) b room) .node) (recordLine k (answerOf n (outcomes (stateOf n) b room)))
 unfolding stepped
 other-kind k n b h = rw (ne-eqb (kindOf b) 40 h)
 
 pub record-step : (k : ℕ) (n : Node) (b : List ℕ) {a : Answer} {old new : List ℕ} {r : ℕ} → (kindOf b ≡ 40 → ⊥)
-    → a ≡ answerOf n (outcome (stateOf n) b 7) → Kept (a .node) → Lined (recordLine k a) old new r → Turned (stepped k n b) old new (turn (a .node) r true)
+    → a ≡ answerOf n (outcomes (stateOf n) b room) → Kept (a .node) → Lined (recordLine k a) old new r → Turned (stepped k n b) old new (turn (a .node) r true)
 record-step k n b {a} {old} {new} {r} h e kept p =
     rw (other-kind k n b h)
     (subst (λ (x : Answer). Turned (goesOn (x .node) (recordLine k x)) old new (turn (a .node) r true)) e (spoken kept p))

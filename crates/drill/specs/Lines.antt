@@ -10,7 +10,7 @@ use Rattle.controller.specs.State.{State}
 use Rattle.controller.specs.Node.{Answer, stateOf, westRequest, eastRequest, steered}
 use Rattle.drill.specs.Text.{ascii, decimal, line}
 
--- "Any other record gives a line: number from 1, result, west request, east request, own sequence, stations, 1 if a report was written else 0."
+-- "Any other record gives a line: number from 1, result, west request, east request, own sequence, stations", and last, where 01 said "1 if a report was written else 0", 02, Item 4: "the number of reports".
 unfoldable pub recordLine : ℕ → Answer → List ℕ
 unfolding line decimal westRequest eastRequest
 recordLine k a =
@@ -22,7 +22,7 @@ recordLine k a =
     ∷ decimal (eastRequest s)
     ∷ decimal (s .pacer .sequence)
     ∷ decimal (length (s .stations))
-    ∷ decimal (cond (a .wrote) 1 0)
+    ∷ decimal (a .reports)
     ∷ [])
 
 -- A number and a result, for what does not come to the controller.

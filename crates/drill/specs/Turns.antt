@@ -5,7 +5,7 @@ use mathlib.Core.List.{List, [], _∷_, _++_}
 use lib.ListN.{length}
 use lib.Dec.{eqb}
 use Rattle.wire.specs.Head.{kindOf, bodyOf}
-use Rattle.controller.specs.Record.{outcome}
+use Rattle.controller.specs.Record.{outcomes}
 use Rattle.controller.specs.Node.{Node, Started, stateOf, startedWith, answerOf}
 use Rattle.drill.specs.Lines.{recordLine, refusedLine, questionLine, settingsLine}
 
@@ -27,9 +27,9 @@ goesOn n text = record { node = n; line = text; more = true }
 abbrev pub ends : Node → List ℕ → Step
 ends n text = record { node = n; line = text; more = false }
 
--- "Its output room always suffices."
+-- "Its output room always suffices": 1,000 reports of 7 bytes.
 abbrev pub room : ℕ
-room = 7
+room = 7000
 
 -- "Kind 40 (address) is its own question."
 abbrev pub question : ℕ
@@ -37,11 +37,11 @@ question = 40
 
 -- One whole record: a question leaves the node as it is, "any other record" is the controller's.
 unfoldable pub stepped : ℕ → Node → List ℕ → Step
-unfolding questionLine recordLine outcome
+unfolding questionLine recordLine outcomes
 stepped k n b =
     cond (eqb (kindOf b) question)
     (goesOn n (questionLine k (stateOf n) (bodyOf b)))
-    (let a = answerOf n (outcome (stateOf n) b room) in goesOn (a .node) (recordLine k a))
+    (let a = answerOf n (outcomes (stateOf n) b room) in goesOn (a .node) (recordLine k a))
 
 -- "A cut record or a length outside 2 to 1,033 gives number and 2, and the end"; "Input that stops between records ends with no line."
 unfoldable pub turned : ℕ → Node → Read → Step

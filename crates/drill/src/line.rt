@@ -2,8 +2,6 @@
 use controller::OWN_WORDS;
 use controller::ROW_WORDS;
 use controller::Returned;
-ghost use mathlib.Core.Path.{_≡_};
-ghost use mathlib.Core.Bool.{cond};
 ghost use mathlib.Core.List.{[], _∷_};
 ghost use Prim.Native.Nat.{_+_, _<_, _≤_};
 ghost use lib.ListN.{length};
@@ -95,16 +93,6 @@ pub(crate) fn put_question(
     )
 }
 
-// 1 if a report was written else 0.
-fn written(wrote: bool) -> u64
-    ensures { λ r. ⌜ r ≡ cond wrote 1 0 ⌝ }
-{
-    if wrote {
-        return 1;
-    }
-    0
-}
-
 // West request, east request, each with a space behind it.
 fn put_requests(line: &mut [u8; 147], at: usize, west: u8, east: u8) -> usize
     requires { ⌜ at + 42 ≤ 147 ⌝ }
@@ -114,7 +102,7 @@ fn put_requests(line: &mut [u8; 147], at: usize, west: u8, east: u8) -> usize
     put_number(line, a, east as u64, b' ')
 }
 
-// A record: number, result, west request, east request, own sequence, stations, 1 if a report was written else 0.
+// A record: number, result, west request, east request, own sequence, stations, number of reports.
 pub(crate) fn put_record(
     line: &mut [u8; 147],
     number: u64,
@@ -132,5 +120,5 @@ pub(crate) fn put_record(
     let at = put_requests(line, at, west, east);
     let at = put_number(line, at, controller::own_sequence(own, rows) as u64, b' ');
     let at = put_number(line, at, controller::station_count(own, rows) as u64, b' ');
-    put_number(line, at, written(a.wrote), b'\n')
+    put_number(line, at, a.reports as u64, b'\n')
 }

@@ -45,7 +45,7 @@ fn step(
     if wire::word_at(bytes, 2) == 40 {
         return goes_on(line::put_question(line, number, own, rows, wire::body(bytes)));
     }
-    let mut out = [0u8; 7];
+    let mut out = [0u8; 7000];
     let a = controller::take_record(own, rows, bytes, &mut out);
     goes_on(line::put_record(line, number, own, rows, a))
 }

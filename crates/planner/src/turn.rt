@@ -65,7 +65,7 @@ fn step(own: &mut [u64; OWN_WORDS], rows: &mut [u64; ROW_WORDS], bytes: &[u8])
     if wire::word_at(bytes, 2) == QUESTION {
         line::print_free(answer(own, rows, wire::body(bytes)));
     } else {
-        let mut out = [0u8; 7];
+        let mut out = [0u8; 7000];
         controller::take_record(own, rows, bytes, &mut out);
     }
 }

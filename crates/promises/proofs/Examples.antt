@@ -59,4 +59,16 @@ twelve = (
 
 pub of-requests : AllHold requested
 unfolding AllHold answersTo startOf ticks settingsIn headOf broken fullIn fieldsOf inRange addressAt ticksOf cut known has sound behind value knows good among
-of-requests = (record { taken = refl; answers = refl }, (record { taken = refl; answers = refl }, tt))
+of-requests = (
+  record { taken = refl; answers = refl },
+  (
+    record { taken = refl; answers = refl },
+    (
+      record { taken = refl; answers = refl },
+      (
+        record { taken = refl; answers = refl },
+        (record { taken = refl; answers = refl }, (record { taken = refl; answers = refl }, tt)),
+      ),
+    ),
+  ),
+)

@@ -11,9 +11,9 @@ use Rattle.stations.specs.Table.{blank, tableOf}
 use Rattle.stations.specs.Rows.{image, tableIn}
 use Rattle.controller.specs.Own.{ownOf}
 use Rattle.controller.specs.State.{State}
-use Rattle.controller.specs.Record.{outcome}
+use Rattle.controller.specs.Record.{outcomes}
 use Rattle.controller.specs.Node.{Node, stateOf, answerOf, startedWith}
-use Rattle.promises.specs.Examples.{address, tick, link, report, attributes, settings}
+use Rattle.promises.specs.Examples.{address, tick, many, link, report, attributes, settings}
 use Rattle.promises.specs.Refusals.{Test, tests, startTests}
 
 -- The numbers of all tests that apply, in the order of the tests.
@@ -31,8 +31,8 @@ pub record Case : Type 0 where
 
 -- The result that a record gets and the tests that apply to it, and what is due.
 unfoldable pub got : Case → List ℕ
-unfolding applying tests outcome
-got c = outcome (stateOf (c .node)) (c .bytes) (c .room) .result ∷ applying tests (stateOf (c .node)) (c .bytes) (c .room)
+unfolding applying tests outcomes
+got c = outcomes (stateOf (c .node)) (c .bytes) (c .room) .result ∷ applying tests (stateOf (c .node)) (c .bytes) (c .room)
 
 abbrev pub due : Case → List ℕ
 due c = c .result ∷ c .apply
@@ -43,8 +43,8 @@ unfolding startedWith settingsIn headOf broken fullIn fieldsOf inRange addressAt
 fresh = startedWith (settings 2 0) .node
 
 unfoldable pub next : Node → List ℕ → Node
-unfolding outcome tableOf image tableIn ownOf blank ticksOf
-next n b = answerOf n (outcome (stateOf n) b 7) .node
+unfolding outcomes tableOf image tableIn ownOf blank ticksOf
+next n b = answerOf n (outcomes (stateOf n) b 7) .node
 
 unfoldable pub joined : Node
 unfolding fresh next
@@ -62,31 +62,41 @@ abbrev pub alone : List Case
 alone =
     case fresh tick 6 (1 ∷ []) 1
     ∷ case fresh (3 ∷ 0 ∷ 1 ∷ 0 ∷ []) 7 (2 ∷ []) 2
-    ∷ case fresh ((9 ∷ 0 ∷ 7 ∷ 0 ∷ 0 ∷ []) ++ address 3) 7 (3 ∷ []) 3
+    ∷ case fresh ((9 ∷ 0 ∷ 8 ∷ 0 ∷ 0 ∷ []) ++ address 3) 7 (3 ∷ []) 3
     ∷ case fresh (link 2 0) 7 (4 ∷ []) 4
     ∷ case fresh (report 0 255 1 1 0 0) 7 (5 ∷ []) 5
     ∷ case fresh (report 0 192 3 1 0 0) 7 (6 ∷ []) 6
     ∷ case joined (attributes 3 []) 7 (7 ∷ []) 7
     ∷ case joined (attributes 2 (0 ∷ [])) 7 (8 ∷ []) 8
+    ∷ case fresh (many 0) 7 (4 ∷ []) 4
+    ∷ case fresh (many 1001) 7007 (4 ∷ []) 4
+    ∷ case fresh (3 ∷ 0 ∷ 7 ∷ 0 ∷ 1 ∷ []) 7 (4 ∷ []) 4
+    ∷ case fresh (many 2) 13 (1 ∷ []) 1
     ∷ []
 
--- .. and the first of several: no bytes and no room; a wrong length; the own address from too far; a span that is down, an unknown station and a bad block.
+-- .. and the first of several: no bytes and no room; a wrong length; the own address from too far; a span that is down, an unknown station and a bad block; both tests of room, and 4 between
+-- them.
 abbrev pub several : List Case
 several =
     case fresh [] 0 (1 ∷ 2 ∷ 3 ∷ []) 1
-    ∷ case fresh (2 ∷ 0 ∷ 7 ∷ 0 ∷ 0 ∷ []) 7 (2 ∷ 3 ∷ []) 2
+    ∷ case fresh (2 ∷ 0 ∷ 8 ∷ 0 ∷ 0 ∷ []) 7 (2 ∷ 3 ∷ []) 2
     ∷ case fresh (2 ∷ 0 ∷ 1 ∷ 0 ∷ 0 ∷ []) 7 (2 ∷ 4 ∷ []) 2
     ∷ case fresh (report 0 0 1 1 0 0) 7 (4 ∷ 5 ∷ 6 ∷ []) 4
     ∷ case fresh (report 0 100 1 1 0 0) 7 (5 ∷ 6 ∷ []) 5
     ∷ case failed (attributes 1 []) 7 (5 ∷ 21 ∷ 7 ∷ []) 5
     ∷ case failed (attributes 3 (0 ∷ [])) 7 (21 ∷ 7 ∷ 8 ∷ []) 21
     ∷ case joined (attributes 3 (0 ∷ [])) 7 (7 ∷ 8 ∷ []) 7
+    ∷ case fresh (many 1) 6 (1 ∷ 1 ∷ []) 1
+    ∷ case fresh (many 1001) 6 (1 ∷ 4 ∷ 1 ∷ []) 1
+    ∷ case fresh (many 1001) 7 (4 ∷ 1 ∷ []) 4
     ∷ []
 
 -- No test applies: taken, an old report, a block set aside.
 abbrev pub fine : List Case
 fine =
     case fresh tick 7 [] 0
+    ∷ case fresh (many 1) 7 [] 0
+    ∷ case fresh (many 2) 14 [] 0
     ∷ case joined (attributes 2 []) 7 [] 0
     ∷ case failed (report 0 255 2 1 0 0) 7 [] 21
     ∷ case joined (report 0 255 2 129 0 0) 7 [] 0

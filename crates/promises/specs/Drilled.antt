@@ -4,7 +4,7 @@ use mathlib.Core.Path.{_≡_}
 use mathlib.Core.List.{List, reverse, map}
 use Rattle.controller.specs.Node.{Started, startedWith}
 use Rattle.controller.specs.Promise.{Begun}
-use Rattle.promises.specs.History.{Call, Made, callsOf, Met}
+use Rattle.promises.specs.History.{Call, Made, madeOf, Met}
 
 -- The calls of the records, the latest first.
 abbrev pub callsFor : List (List ℕ) → List Call
@@ -13,7 +13,7 @@ callsFor l = map (λ (b : List ℕ). record { bytes = b; room = 7 }) (reverse l)
 -- st is what start answered, and h are the calls made since; each met its contract.
 pub record Drilled (start : List ℕ) (l : List (List ℕ)) (st : Started) (h : List Made) : Type 0 where
   pub begun : Begun start st
-  pub calls : callsOf h ≡ callsFor l
+  pub calls : madeOf h ≡ callsFor l
   pub met : Met st h
 
 -- A program answers as the rules do, and its calls are these.

@@ -8,7 +8,7 @@ use Rattle.settings.specs.Reading.{settingsIn}
 use Rattle.stations.specs.Stations.{sequenceOf}
 use Rattle.ways.specs.Choice.{number, hopOf}
 use Rattle.controller.specs.State.{State}
-use Rattle.controller.specs.Record.{outcome}
+use Rattle.controller.specs.Record.{outcomes}
 use Rattle.controller.specs.declared.ask.Shown.{Shown}
 use Rattle.controller.specs.Node.{westRequest, steered, asked}
 use Rattle.promises.specs.History.{startOf}
@@ -23,6 +23,10 @@ station n = 2199023255552 + n
 
 abbrev pub tick : List ℕ
 tick = 2 ∷ 0 ∷ 1 ∷ 0 ∷ []
+
+-- n ticks in one record, n low byte first.
+abbrev pub many : ℕ → List ℕ
+many n = 4 ∷ 0 ∷ 7 ∷ 0 ∷ n % 256 ∷ n / 256 ∷ []
 
 abbrev pub link : ℕ → ℕ → List ℕ
 link span status = 4 ∷ 0 ∷ 2 ∷ 0 ∷ span ∷ status ∷ []
@@ -57,16 +61,19 @@ pub record Example : Type 0 where
   pub asks : List Question
   pub due : List ℕ
 
--- Records in the order in which they are made, each with room for a report.
+-- Records in the order in which they are made, each with room for a thousand reports, as in a drill.
+abbrev pub room : ℕ
+room = 7000
+
 unfoldable pub run : State → List (List ℕ) → State
-unfolding outcome
+unfolding outcomes
 run s [] = s
-run s (b ∷ l) = run (outcome s b 7 .state) l
+run s (b ∷ l) = run (outcomes s b room .state) l
 
 unfoldable pub resultsOf : State → List (List ℕ) → List ℕ
-unfolding outcome
+unfolding outcomes
 resultsOf s [] = []
-resultsOf s (b ∷ l) = outcome s b 7 .result ∷ resultsOf (outcome s b 7 .state) l
+resultsOf s (b ∷ l) = outcomes s b room .result ∷ resultsOf (outcomes s b room .state) l
 
 abbrev pub shownAs : Shown → List ℕ
 shownAs x = x .reply ∷ x .kind ∷ x .weight0 ∷ x .weight1 ∷ x .reserved0 ∷ x .reserved1 ∷ []
@@ -202,6 +209,19 @@ Swing = drill 3 (swings 9) (west ∷ []) (0 ∷ [])
 abbrev pub Swing-after : Example
 Swing-after = drill 3 (swings 10) (west ∷ []) (3 ∷ [])
 
+-- 02, Item 4: P6 and the swinging link told in records of many ticks; the 29 and 30 ticks are fewer than the 50 of the keepalive setting.
+abbrev pub P6-many : Example
+P6-many = drill 3 (link 0 2 ∷ many 29 ∷ []) (results ∷ west ∷ []) (0 ∷ 0 ∷ 0 ∷ [])
+
+abbrev pub P6-many-after : Example
+P6-many-after = drill 3 (link 0 2 ∷ many 30 ∷ []) (results ∷ west ∷ []) (0 ∷ 0 ∷ 4 ∷ [])
+
+abbrev pub Swing-many : Example
+Swing-many = drill 3 (link 0 2 ∷ many 20 ∷ link 0 1 ∷ many 9 ∷ []) (results ∷ west ∷ []) (0 ∷ 0 ∷ 0 ∷ 0 ∷ 0 ∷ [])
+
+abbrev pub Swing-many-after : Example
+Swing-many-after = drill 3 (link 0 2 ∷ many 20 ∷ link 0 1 ∷ many 10 ∷ []) (results ∷ west ∷ []) (0 ∷ 0 ∷ 0 ∷ 0 ∷ 3 ∷ [])
+
 -- The examples that the requests of 02 bring with them.
 abbrev pub requested : List Example
-requested = Swing ∷ Swing-after ∷ []
+requested = Swing ∷ Swing-after ∷ P6-many ∷ P6-many-after ∷ Swing-many ∷ Swing-many-after ∷ []

@@ -1,19 +1,23 @@
--- Histories. A list of calls stands with the latest call first, so that its tail is the history before that call.
+-- Histories. A list of calls stands with the latest call first, so that its tail is the history before that call. Each call of a history is one event: where a record of many ticks
+-- was taken, the history has as many ticks.
 use Prim.Native.Nat.{ℕ}
 use mathlib.Core.Path.{_≡_}
-use mathlib.Core.List.{List, [], _∷_}
-use lib.ListN.{length}
+use mathlib.Core.Bool.{cond}
+use mathlib.Core.List.{List, [], _∷_, _++_}
+use lib.ListN.{length, replicate}
 use Rattle.wire.specs.Fields.{Bytes}
+use Rattle.wire.specs.Head.{bodyOf}
 use Rattle.wire.specs.Report.{over}
 use Rattle.settings.specs.Reading.{settingsIn}
 use Rattle.ways.specs.Choice.{number}
 use Rattle.controller.specs.State.{State, started}
-use Rattle.controller.specs.Record.{Outcome, outcome}
-use Rattle.controller.specs.Node.{Node, Started, Answer, choiceOf, stateOf, nodeOf, wrote, westRequest, eastRequest, steered, asked}
+use Rattle.controller.specs.Reading.{countIn, manyTicks}
+use Rattle.controller.specs.Record.{Outcome, outcome, outcomes}
+use Rattle.controller.specs.Node.{Node, Started, Answer, choiceOf, stateOf, nodeOf, reportsIn, westRequest, eastRequest, steered, asked}
 use Rattle.controller.specs.Kept.{Kept}
 use Rattle.controller.specs.Promise.{Recorded}
 
--- A call to the rules: the bytes of a record, and the room for a report.
+-- A call to the rules: the bytes of a record, and the room for its reports.
 pub record Call : Type 0 where
   pub bytes : List ℕ
   pub room : ℕ
@@ -24,9 +28,32 @@ unfolding outcome
 after s [] = s
 after s (c ∷ h) = outcome (after s h) (c .bytes) (c .room) .state
 
--- What the call c is answered after a history.
+-- What the call c is answered after a history, if it is one event.
 abbrev pub answered : State → List Call → Call → Outcome
 answered s h c = outcome (after s h) (c .bytes) (c .room)
+
+-- 02, Item 4: "Demands 2 and 3 read n ticks for it": a record of kind 7 that is taken is read as n records of kind 1 with the same room, any other call as it is.
+abbrev pub tickWith : ℕ → Call
+tickWith room = record { bytes = 2 ∷ 0 ∷ 1 ∷ 0 ∷ []; room = room }
+
+unfoldable pub spelled : Call → List Call
+unfolding manyTicks
+spelled c = cond (manyTicks (c .bytes) (c .room)) (replicate (countIn (bodyOf (c .bytes))) (tickWith (c .room))) (c ∷ [])
+
+-- The history that calls make.
+unfoldable pub spelledOut : List Call → List Call
+unfolding spelled
+spelledOut [] = []
+spelledOut (c ∷ h) = spelled c ++ spelledOut h
+
+-- The same without reading ticks for anything: what a state has become after calls, each with all that it does; and what the next call is answered.
+unfoldable pub afterAll : State → List Call → State
+unfolding outcomes
+afterAll s [] = s
+afterAll s (c ∷ h) = outcomes (afterAll s h) (c .bytes) (c .room) .state
+
+abbrev pub answeredAll : State → List Call → Call → Outcome
+answeredAll s h c = outcomes (afterAll s h) (c .bytes) (c .room)
 
 -- Something holds at every point of a history.
 unfoldable pub Always : {A : Type 0} → (List A → Type 0) → List A → Type 0
@@ -53,9 +80,14 @@ pub record Made : Type 0 where
 abbrev pub callOf : Made → Call
 callOf m = record { bytes = m .bytes; room = length (m .old) }
 
+-- The calls as they were made, and the history that they make.
+unfoldable pub madeOf : List Made → List Call
+madeOf [] = []
+madeOf (m ∷ h) = callOf m ∷ madeOf h
+
 unfoldable pub callsOf : List Made → List Call
-callsOf [] = []
-callsOf (m ∷ h) = callOf m ∷ callsOf h
+unfolding madeOf spelledOut
+callsOf h = spelledOut (madeOf h)
 
 -- The node that the next call is handed: the one that start gave, or the latest call.
 abbrev pub nodeAfter : Started → List Made → Node
@@ -78,8 +110,8 @@ pub record Ruled (b : List ℕ) (n : Node) (s : State) : Type 0 where
   pub ways : (a : ℕ) → number (steered (stateOf n) a) ≡ number (steered s a)
   pub attributes : (a : ℕ) → asked (stateOf n) a ≡ asked s a
 
--- A call was answered as the rules answer it: the result, whether a report was written, and the whole buffer.
+-- A call was answered as the rules answer it: the result, the number of reports, and the whole buffer.
 pub record AnsweredAs (m : Made) (o : Outcome) : Type 0 where
   pub result : m .answer .result ≡ o .result
-  pub written : m .answer .wrote ≡ wrote (o .report)
+  pub written : m .answer .reports ≡ reportsIn (o .report)
   pub content : m .new ≡ over (o .report) (m .old)

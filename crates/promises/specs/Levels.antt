@@ -22,7 +22,7 @@ use Rattle.controller.specs.declared.reading.Reading.the-variants.{Refused, Tic
 use Rattle.controller.specs.Reading.{blockOf, reading}
 use Rattle.controller.specs.State.{Choice, State}
 use Rattle.controller.specs.declared.ask.Shown.{Shown}
-use Rattle.controller.specs.Node.{wrote, westRequest, eastRequest, steered, shown, asked}
+use Rattle.controller.specs.Node.{reportsIn, westRequest, eastRequest, steered, shown, asked}
 use Rattle.controller.specs.Record.{Outcome}
 use Rattle.promises.specs.History.{Call, after, answered, Made}
 
@@ -135,11 +135,11 @@ pub record SameAnswer (x o : Outcome) : Type 0 where
 
 -- One call as two programs made it, x of the smaller node and y of the larger, each with a buffer of its own.
 pub record SameCall (x y : Made) : Type 0 where
-  -- Both tell a report, or neither does.
-  pub told : x .answer .wrote ≡ y .answer .wrote
-  -- It is the same report, of no bytes where none is told, over the front of either buffer.
+  -- Both tell as many reports.
+  pub told : x .answer .reports ≡ y .answer .reports
+  -- They are the same reports, of no bytes where none is told, over the front of either buffer.
   pub report : List ℕ
-  pub tells : x .answer .wrote ≡ wrote report
+  pub tells : x .answer .reports ≡ reportsIn report
   pub smaller : x .new ≡ over report (x .old)
   pub larger : y .new ≡ over report (y .old)
   pub result : SameResult (x .answer .result) (y .answer .result)

@@ -1,4 +1,5 @@
 pub mod History
+pub mod ManyTicks
 pub mod Refusals
 pub mod Levels
 pub mod Steering

@@ -7,7 +7,7 @@ use lib.Dec.{ltb}
 use Rattle.wire.specs.Report.{over}
 use Rattle.wire.specs.Fields.{Bytes}
 use Rattle.controller.specs.Node.{Started, stateOf, answerOf}
-use Rattle.controller.specs.Record.{outcome}
+use Rattle.controller.specs.Record.{outcomes}
 use Rattle.promises.specs.History.{Call, Made, nodeAfter}
 
 -- A record and a buffer, as they are handed to a call.
@@ -21,11 +21,11 @@ AllHanded (c ∷ h) = Bytes (c .bytes) × AllHanded h
 
 -- The calls as the rules answer them, the latest first.
 unfoldable pub made : Started → List Handed → List Made
-unfolding outcome
+unfolding outcomes
 made st [] = []
 made st (c ∷ h) =
     let g = made st h in
-    let o = outcome (stateOf (nodeAfter st g)) (c .bytes) (length (c .old)) in
+    let o = outcomes (stateOf (nodeAfter st g)) (c .bytes) (length (c .old)) in
     record { bytes = c .bytes; old = c .old; new = over (o .report) (c .old); answer = answerOf (nodeAfter st g) o } ∷ g
 
 -- Every number of a list is a byte.

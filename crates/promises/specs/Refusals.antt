@@ -1,5 +1,5 @@
--- Each number's test by itself, and the order of the tests. 01, Numbers returned for a record.
-use Prim.Native.Nat.{ℕ, _-_}
+-- Each number's test by itself, and the order of the tests. 01, Numbers returned for a record; 02, Item 4.
+use Prim.Native.Nat.{ℕ, _-_, _*_}
 use mathlib.Core.Path.{_≡_}
 use mathlib.Core.Bool.{Bool, true, false, not, cond, _&&_, _||_}
 use mathlib.Core.List.{List, [], _∷_, _++_}
@@ -11,7 +11,7 @@ use Rattle.settings.specs.Reading.{fullFits, shortFits}
 use Rattle.spans.specs.Requests.{down}
 use Rattle.blocks.specs.Meaning.{Meaning, malformed, aside, shows, meaning}
 use Rattle.stations.specs.Stations.{present}
-use Rattle.controller.specs.Reading.{linkFits, keepaliveFits, operatorFits, reportFits, blockFits, blockOf}
+use Rattle.controller.specs.Reading.{linkFits, keepaliveFits, operatorFits, reportFits, blockFits, blockOf, countIn, ticksFit}
 use Rattle.controller.specs.State.{State, spanOf}
 
 -- The numbers that a record may get.
@@ -33,7 +33,8 @@ bodyFits b =
     (cond (isKind 3 b) (keepaliveFits (bodyOf b))
     (cond (isKind 4 b) (operatorFits (bodyOf b))
     (cond (isKind 5 b) (reportFits (bodyOf b))
-    (cond (isKind 6 b) (blockFits (bodyOf b)) true)))))
+    (cond (isKind 6 b) (blockFits (bodyOf b))
+    (cond (isKind 7 b) (ticksFit (bodyOf b)) true))))))
 
 abbrev pub isMalformed : Meaning → Bool
 isMalformed malformed = true
@@ -45,14 +46,15 @@ pub record Test : Type 0 where
   pub number : ℕ
   pub applies : State → List ℕ → ℕ → Bool
 
--- "They are tested in that order, save that for kind 6 result 21 (..) comes between 5 and 7."
+-- "They are tested in that order, save that for kind 6 result 21 (..) comes between 5 and 7." 02, Item 4: "after 4, 1 if the room is below 7 × n bytes; the test of 7 bytes stays first."
 unfoldable pub tests : List Test
 unfolding broken down present meaning
 tests =
     record { number = 1; applies = λ s b room. ltb room 7 }
     ∷ record { number = 2; applies = λ s b room. broken b }
-    ∷ record { number = 3; applies = λ s b room. not (leb 1 (kindOf b) && leb (kindOf b) 6) }
+    ∷ record { number = 3; applies = λ s b room. not (leb 1 (kindOf b) && leb (kindOf b) 7) }
     ∷ record { number = 4; applies = λ s b room. not (bodyFits b) }
+    ∷ record { number = 1; applies = λ s b room. isKind 7 b && ltb room (7 * countIn (bodyOf b)) }
     ∷ record { number = 5; applies = λ s b room. (isKind 5 b || isKind 6 b) && eqb (heardAddress b) (s .choice .address) }
     ∷ record { number = 6; applies = λ s b room. isKind 5 b && ltb 63 (256 - byteAt (bodyOf b) 2) }
     ∷ record { number = 21; applies = λ s b room. isKind 6 b && down (s .choice .ticks) (spanOf (byteAt (bodyOf b) 0) (s .spans)) }

@@ -10,6 +10,7 @@ use text::writing;
 
 use crate::chance::Chance;
 use crate::maker::Maker;
+use crate::many;
 use crate::opening::{self, Opening};
 use crate::scenes;
 use crate::script::{end, Script};
@@ -52,7 +53,7 @@ impl Subject for Drills {
     }
 
     fn nothing(&self) -> Tally {
-        Tally::new(self.word(), &LABELS)
+        Tally::new(self.word(), &[&LABELS[..], &many::LABELS].concat())
     }
 
     fn count(&self, input: &[u8], said: &[u8]) -> Tally {
@@ -104,7 +105,7 @@ fn play(mut chance: Chance, budget: usize, settings: Option<Bytes>) -> Script {
     let large = chance.range(9, 63);
     let stations = chance.pick(&[small, small, small, 1, large]);
     let mut maker = Maker::new(chance, opening, stations);
-    while maker.records.len() < budget {
+    while maker.length() < budget {
         match maker.chance.below(10) {
             0..=3 => maker.restore(),
             4..=5 => maker.heal(),
@@ -117,7 +118,7 @@ fn play(mut chance: Chance, budget: usize, settings: Option<Bytes>) -> Script {
     Script::made(maker, settings)
 }
 
-/// What is counted: results of full lines, replies, refused settings, ends, and more.
+/// What is counted beside kind 7: results of full lines, replies, refused settings, ends, and more.
 const LABELS: [&str; 24] = [
     "result 0",
     "result 3",
@@ -160,9 +161,9 @@ fn tally(said: &[u8]) -> Tally {
             [_, "2"] => tally.count(END),
             [_, "4"] => tally.count(REFUSED_QUESTION),
             [_, "way", reply] => tally.count(&format!("way {reply}")),
-            [_, result, _, _, _, _, report] => {
+            [_, result, _, _, _, _, reports] => {
                 tally.count(&format!("result {result}"));
-                if report == "1" {
+                for _ in 0..reports.parse().unwrap_or(0) {
                     tally.count(REPORTS);
                 }
             }
@@ -178,7 +179,7 @@ mod tests {
 
     use model::drill::say;
     use model::faults::RIGHT;
-    use model::Node;
+    use model::{Node, OUTPUT_ROOM};
     use text::record::Record;
     use text::records::LONGEST;
     use text::source::is_bytes;
@@ -247,7 +248,7 @@ mod tests {
             if told.line.is_none() {
                 return;
             }
-            node.record(&told.record.bytes(), &mut [0; 7]);
+            node.record(&told.record.bytes(), &mut [0; OUTPUT_ROOM]);
             assert_eq!(
                 shown(&stays, place),
                 node.hops(),
@@ -285,8 +286,28 @@ mod tests {
     }
 
     #[test]
+    fn many_drills_reach_kind_7_in_places_of_every_sort() {
+        let mut sum = Drills.nothing();
+        for seed in 1..=200 {
+            let bytes = drill(seed).bytes();
+            sum.add(&Drills.count(&bytes, &say::<RIGHT>(&bytes)));
+        }
+        let least = [
+            (many::INPUTS, 150),
+            (many::TAKEN, 2_000),
+            (many::REFUSED, 200),
+            (many::SEVERAL, 500),
+            (many::CHANGED, 200),
+            (many::LEFT, 50),
+        ];
+        for (label, least) in least {
+            assert!(sum.of(label) > least, "{label}: {}", sum.of(label));
+        }
+    }
+
+    #[test]
     fn each_sort_of_line_has_its_count() {
-        let said = b"1 0 4 0 1 0 1\n2 way 3\n3 4\n4 22 0 0 1 0 0\n5 2\n";
+        let said = b"1 0 4 0 1 0 5\n2 way 3\n3 4\n4 22 0 0 1 0 1\n5 2\n";
         let mut sum = tally(said);
         sum.add(&tally(b"settings 4\n"));
         sum.add(&tally(b"1 1 0 0 0 0 0\nwhat\n"));
@@ -294,6 +315,6 @@ mod tests {
         assert_eq!((sum.of("result 0"), sum.of("result 22")), (1, 1));
         assert_eq!((sum.of("way 3"), sum.of("settings 4")), (1, 1));
         assert_eq!((sum.of(END), sum.of(REFUSED_QUESTION)), (1, 1));
-        assert_eq!((sum.of(REPORTS), sum.of(OTHER)), (1, 2));
+        assert_eq!((sum.of(REPORTS), sum.of(OTHER)), (6, 2));
     }
 }

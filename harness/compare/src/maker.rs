@@ -9,6 +9,12 @@ use crate::ring::Ring;
 
 /// No span, or every span, hears keepalives.
 pub const NONE_DEAF: [bool; 2] = [false, false];
+/// The most ticks that share a record.
+pub const MOST_SHARED: usize = 1_000;
+/// In so many of 100 runs of ticks some share a record.
+const SHARING: usize = 30;
+/// So many ticks that share a record are as long as a record, when a drill's length is counted.
+const AS_A_RECORD: usize = 4;
 
 /// A drill in the making.
 pub struct Maker {
@@ -21,7 +27,9 @@ pub struct Maker {
     /// What has been given so far.
     pub records: Vec<Bytes>,
     /// Ticks since the last keepalive of each span.
-    silent: [u32; 2],
+    silent: [usize; 2],
+    /// Ticks that shared a record.
+    shared: usize,
 }
 
 impl Maker {
@@ -34,17 +42,34 @@ impl Maker {
             ring,
             records: Vec::new(),
             silent: [0; 2],
+            shared: 0,
         }
     }
 
     /// Gives a record.
     pub fn give(&mut self, record: Bytes) {
         match record[..] {
-            [2, 0, 1, 0] => self.silent = self.silent.map(|ticks| ticks + 1),
+            [2, 0, 1, 0] => self.pass(1),
+            [4, 0, 7, 0, low, high] => {
+                let count = usize::from(u16::from_le_bytes([low, high]));
+                if count <= MOST_SHARED {
+                    self.pass(count);
+                    self.shared += count;
+                }
+            }
             [3, 0, 3, 0, span @ 0..=1] => self.silent[usize::from(span)] = 0,
             _ => {}
         }
         self.records.push(record);
+    }
+
+    fn pass(&mut self, ticks: usize) {
+        self.silent = self.silent.map(|silent| silent + ticks);
+    }
+
+    /// How long the drill is by now: its records, and some more for ticks that share one.
+    pub fn length(&self) -> usize {
+        self.records.len() + self.shared / AS_A_RECORD
     }
 
     /// West or east.
@@ -52,17 +77,40 @@ impl Maker {
         self.chance.below(2)
     }
 
-    /// Passes ticks. Keepalives come just in time, save on a span that is deaf.
+    /// Passes ticks. Keepalives come just in time, save on a span that is deaf. In some runs those between keepalives share records.
     pub fn ticks(&mut self, count: usize, deaf: [bool; 2]) {
-        for _ in 0..count {
-            for (span, deaf) in deaf.into_iter().enumerate() {
-                let late = self.silent[span] + 1 >= u32::from(self.opening.settings.keepalive);
-                if late && !deaf {
+        let sharing = self.chance.percent(SHARING);
+        let mut left = count;
+        while left > 0 {
+            for span in (0..2).filter(|&span| !deaf[span]) {
+                if self.before_silence(span) == 0 {
                     self.give(records::keepalive(span as u8));
                 }
             }
-            self.give(records::tick());
+            let ticks = if sharing { self.part(left, deaf) } else { 1 };
+            let alone = ticks == 1 && (!sharing || self.chance.percent(70));
+            self.give(if alone {
+                records::tick()
+            } else {
+                records::ticks(ticks as u16)
+            });
+            left -= ticks;
         }
+    }
+
+    /// How many ticks may pass before a span has to hear a keepalive.
+    fn before_silence(&self, span: usize) -> usize {
+        let keepalive = usize::from(self.opening.settings.keepalive);
+        keepalive.saturating_sub(self.silent[span] + 1)
+    }
+
+    /// How many ticks share the next record: all that may, or fewer.
+    fn part(&mut self, left: usize, deaf: [bool; 2]) -> usize {
+        let hearing = (0..2).filter(|&span| !deaf[span]);
+        let silence = hearing.map(|span| self.before_silence(span)).min();
+        let most = left.min(silence.unwrap_or(left)).clamp(1, MOST_SHARED);
+        let some = self.chance.range(1, most);
+        self.chance.pick(&[most, most, some, some, 1])
     }
 
     /// Lets the link of a span report a status.

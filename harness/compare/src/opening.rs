@@ -129,7 +129,7 @@ pub fn refused(chance: &mut Chance) -> Bytes {
             good
         }
         3 => {
-            let kind = chance.pick(&[0, 1, 2, 3, 5, 16, 31, 34, 40, 48, 0x0120, 0x2000]);
+            let kind = chance.pick(&[0, 1, 2, 3, 5, 7, 16, 31, 34, 40, 48, 0x0120, 0x2000]);
             record(kind, &good[4..])
         }
         4 => {

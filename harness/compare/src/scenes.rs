@@ -6,6 +6,7 @@ use text::records::{self, Report};
 use crate::blocks;
 use crate::chance::Chance;
 use crate::maker::{Maker, NONE_DEAF};
+use crate::owed;
 use crate::ring::{self, LARGEST};
 use crate::wild;
 
@@ -13,7 +14,7 @@ use crate::wild;
 pub type Scene = fn(&mut Maker);
 
 /// Scenes and how often each comes.
-const SCENES: [(usize, Scene); 19] = [
+const SCENES: [(usize, Scene); 20] = [
     (8, learn),
     (10, quarrel),
     (7, displace),
@@ -28,6 +29,7 @@ const SCENES: [(usize, Scene); 19] = [
     (6, hold),
     (6, dirty),
     (2, wrap),
+    (7, owed::spell),
     (7, block_round),
     (6, wild::refusals),
     (6, wild::mixture),

@@ -64,7 +64,7 @@ pub fn end(m: &mut Maker, event: fn(&mut Maker) -> Bytes, ask: fn(&mut Maker)) {
 /// Some record, now and then one of the longest.
 fn last_record(m: &mut Maker, event: fn(&mut Maker) -> Bytes) -> Bytes {
     if m.chance.percent(15) {
-        let kind = m.chance.pick(&[5, 6, 40, 99]);
+        let kind = m.chance.pick(&[5, 6, 7, 40, 99]);
         return records::record(kind, &vec![0; LONGEST - 2]);
     }
     event(m)

@@ -3,6 +3,7 @@
 use model::{Node, Status};
 use text::pieces::pieces;
 
+use crate::many::Counter;
 use crate::tally::Tally;
 
 /// A link record changed a status that waits for the end of hold-off, and the time ran on.
@@ -13,7 +14,7 @@ pub const ENDED: &str = "hold-off ended after such a change";
 /// The stored status of a link and the hold-off ticks left.
 type Link = (Status, u32);
 
-/// Counts what happened on the links of a drill.
+/// Counts what happened on the links of a drill, and its records of kind 7.
 pub fn count(input: &[u8], tally: &mut Tally) {
     let pieces = pieces(input);
     let settings = pieces.first().copied().unwrap_or_default();
@@ -22,9 +23,10 @@ pub fn count(input: &[u8], tally: &mut Tally) {
         return;
     }
     let mut swung = [false; 2];
+    let mut counter = Counter::default();
     for record in &pieces[1..] {
         let before = node.links();
-        node.record(record, &mut [0; 7]);
+        counter.give(&mut node, record, tally);
         let after = node.links();
         for (span, swung) in swung.iter_mut().enumerate() {
             count_one(before[span], after[span], swung, tally);
@@ -74,6 +76,7 @@ mod tests {
         assert_eq!(with("tick 10\nlink west degraded\ntick 10\n"), (0, 0));
         let both = "link east degraded\ntick 5\nlink west degraded\nlink east failed\ntick 5\n";
         assert_eq!(with(both), (2, 2));
+        assert_eq!(with("ticks 9\nlink west degraded\nticks 30\n"), (1, 1));
     }
 
     #[test]

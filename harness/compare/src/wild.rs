@@ -5,17 +5,20 @@ use text::records::{self, record, wire, Bytes, Report};
 use crate::blocks;
 use crate::chance::Chance;
 use crate::maker::Maker;
+use crate::owed;
 use crate::ring;
 
 /// Kinds that are not events, among them the good ones with a high byte added.
-const NOT_EVENTS: [u16; 20] = [
-    0, 7, 8, 15, 16, 31, 32, 33, 34, 39, 41, 48, 127, 255, 256, 257, 262, 0x0128, 0x0500, 0xFFFF,
+const NOT_EVENTS: [u16; 22] = [
+    0, 8, 9, 15, 16, 31, 32, 33, 34, 39, 41, 48, 127, 255, 256, 257, 262, 263, 0x0128, 0x0500,
+    0x0700, 0xFFFF,
 ];
 
 /// Records that are mostly refused.
 pub fn refusals(m: &mut Maker) {
     for _ in 0..m.chance.range(10, 40) {
-        let record = match m.chance.below(6) {
+        let record = match m.chance.below(7) {
+            6 => owed::bad(&mut m.chance),
             0 => other_kind(&mut m.chance),
             1 => other_length(&mut m.chance),
             2 => short_event(&mut m.chance),
@@ -81,7 +84,8 @@ pub fn event(m: &mut Maker) -> Bytes {
     let span = m.span();
     let at = m.ring.any(&mut m.chance);
     let address = m.ring.members[at].address;
-    match m.chance.below(8) {
+    match m.chance.below(9) {
+        8 => records::ticks(m.chance.pick(&[1, 2, 3, 10, 30])),
         0 => records::tick(),
         1 => records::link(span as u8, m.chance.pick(&[0, 0, 1, 2])),
         2 => records::keepalive(span as u8),
@@ -108,9 +112,9 @@ fn other_kind(chance: &mut Chance) -> Bytes {
     record(kind, &body)
 }
 
-/// Kinds 1 to 6 with bodies of another length.
+/// Kinds 1 to 7 with bodies of another length.
 fn other_length(chance: &mut Chance) -> Bytes {
-    let kind = chance.range(1, 6) as u16;
+    let kind = chance.range(1, 7) as u16;
     let length = chance.pick(&[0, 1, 2, 3, 5, 6, 11, 13, 255, 1_031]);
     record(kind, &vec![0; length])
 }

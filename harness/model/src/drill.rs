@@ -2,9 +2,10 @@
 
 use std::io::{self, Read, Write};
 
+use crate::faults::{wrong, Fault};
 use crate::node::NodeOf;
 use crate::program::{self, Program};
-use crate::records::{self, BAD_FIELD, BAD_LENGTH, REPORT_BYTES};
+use crate::records::{self, BAD_FIELD, BAD_LENGTH, OUTPUT_ROOM, REPORT_BYTES};
 
 /// The kind of the drill program's own question.
 const QUESTION: u16 = 40;
@@ -40,13 +41,17 @@ impl<const F: u8> Program<F> for Drill {
                 None => writeln!(output, "{number} {BAD_FIELD}"),
             };
         }
-        let (result, wrote) = node.record(record, &mut [0; REPORT_BYTES]);
+        let room = if wrong::<F>(Fault::RoomOfOne) {
+            REPORT_BYTES
+        } else {
+            OUTPUT_ROOM
+        };
+        let (result, reports) = node.record(record, &mut [0; OUTPUT_ROOM][..room]);
         let (west, east) = (node.west_request(), node.east_request());
         let (sequence, stations) = (node.sequence(), node.station_count());
-        let wrote = u8::from(wrote);
         writeln!(
             output,
-            "{number} {result} {west} {east} {sequence} {stations} {wrote}"
+            "{number} {result} {west} {east} {sequence} {stations} {reports}"
         )
     }
 

@@ -106,6 +106,28 @@ faults! {
         HopsIgnored, "hops-ignored", "of equal requests west, whatever the hops";
         TieEast, "tie-east", "a tie goes east";
         GapsAllowed, "gaps-allowed", "a lower hop that is not held does not matter";
+        ClosedOnce, "closed-once", "kind 7: closing steps once, behind the last tick";
+        PacedOnce, "paced-once", "kind 7: the report's step once, behind the last tick";
+        PacedAfterwards, "paced-afterwards", "kind 7: reports paced when all ticks have passed, with the last pair";
+        PurgeLeftOut, "purge-left-out", "kind 7: WTR and the purge left out of the closing steps";
+        ReportEndsTicks, "report-ends-ticks", "kind 7: ticks behind the first report lost";
+        ReportsAsFlag, "reports-as-flag", "kind 7: several reports counted as one";
+        SilenceOnce, "silence-once", "kind 7: keepalive ages raised once for all ticks";
+        HoldOffOnce, "hold-off-once", "kind 7: hold-off falls once for all ticks";
+        WtrOnce, "wtr-once", "kind 7: WTR falls once for all ticks";
+        AgesOnce, "ages-once", "kind 7: ages of stations raised once for all ticks";
+        OneTickFewer, "one-tick-fewer", "kind 7: one tick fewer";
+        OneTickMore, "one-tick-more", "kind 7: one tick more";
+        CountHighFirst, "count-high-first", "kind 7: the count read with the highest byte first";
+        CountInOneByte, "count-in-one-byte", "kind 7: the low byte of the count alone read";
+        CountZeroTaken, "count-zero-taken", "kind 7: count 0 taken as no tick";
+        Count1000Refused, "count-1000-refused", "kind 7: count 1,000 refused";
+        CountUnlimited, "count-unlimited", "kind 7: counts above 1,000 taken";
+        LongerBodyTaken, "longer-body-taken", "kind 7: a body of three bytes taken";
+        ShorterBodyTaken, "shorter-body-taken", "kind 7: a body of one byte taken";
+        Kind7Unknown, "kind-7-unknown", "kind 7 refused with 3";
+        Kind8Taken, "kind-8-taken", "kind 8 taken as kind 7";
+        RoomOfOne, "room-of-one", "the drill has room for one report, so that most counts are refused with 1";
     }
     planner {
         CountedPerRinglet, "counted-per-ringlet", "a station counted once for each ringlet that it is heard on";
@@ -133,6 +155,7 @@ faults! {
         BehindNumbersGiven, "behind-numbers-given", "31, and numbers given";
         BehindStays, "behind-stays", "behind although a later block was taken";
         TypeZeroNotBehind, "type-zero-not-behind", "behind with type 0 taken for not behind";
+        PlannerRoomOfOne, "planner-room-of-one", "the planner has room for one report, so that most counts are refused with 1";
     }
 }
 

@@ -21,4 +21,5 @@ mod ways;
 pub use bandwidth::Free;
 pub use blocks::{write_block, Values};
 pub use node::{Node, NodeOf, Shown};
+pub use records::OUTPUT_ROOM;
 pub use spans::Status;

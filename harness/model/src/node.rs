@@ -1,11 +1,13 @@
 //! The node: start, one record at a time, steering, attributes, free bandwidth.
 //! Refusals 1 to 8 change nothing; after every other result the closing steps run.
 
+mod ticks;
+
 use crate::bandwidth::{self, Free};
 use crate::blocks::{self, Attributes, Reading};
 use crate::faults::{wrong, Fault, RIGHT};
 use crate::pacer::Pacer;
-use crate::records::{self, Event, Report};
+use crate::records::{self, Event, Report, REPORT_BYTES};
 use crate::settings::Settings;
 use crate::spans::{Request, Span, Status};
 use crate::stations::Table;
@@ -52,26 +54,38 @@ impl<const F: u8> NodeOf<F> {
         (result, node)
     }
 
-    /// Takes one record: the result, and whether a report of 7 bytes was written.
-    pub fn record(&mut self, record: &[u8], out: &mut [u8]) -> (u8, bool) {
+    /// Takes one record: the result, and how many reports of 7 bytes were written, one after another from the front of the output.
+    pub fn record(&mut self, record: &[u8], out: &mut [u8]) -> (u8, usize) {
         let Some(room) = out.first_chunk_mut() else {
-            return (records::NO_ROOM, false);
+            return (records::NO_ROOM, 0);
         };
-        let event = match records::event(record) {
-            Ok(event) => event,
-            Err(refusal) => return (refusal, false),
-        };
+        match records::event::<F>(record) {
+            Err(refusal) => (refusal, 0),
+            Ok(Event::Ticks(count)) => self.ticks(count, out),
+            Ok(event) => {
+                let (result, report) = self.single(&event);
+                if let Some(report) = report {
+                    *room = report;
+                }
+                (result, usize::from(report.is_some()))
+            }
+        }
+    }
+
+    /// One event: its handler and, unless that refuses, the closing steps. The result, and the report to be written.
+    fn single(&mut self, event: &Event) -> (u8, Option<[u8; REPORT_BYTES]>) {
         let before = self.automatic();
-        let result = self.take(&event);
+        let result = self.take(event);
         let unclosed = wrong::<F>(Fault::NotClosed) && result != records::TAKEN;
         if records::is_refusal(result) || unclosed {
-            return (result, false);
+            return (result, None);
         }
-        let wrote = self.close(before, matches!(event, Event::Tick));
-        if wrote {
-            *room = records::report_to_send(self.pacer.sequence(), self.pacer.last());
-        }
-        (result, wrote)
+        let reports = self.close(before, matches!(event, Event::Tick));
+        (result, reports.then(|| self.report()))
+    }
+
+    fn report(&self) -> [u8; REPORT_BYTES] {
+        records::report_to_send(self.pacer.sequence(), self.pacer.last())
     }
 
     fn automatic(&self) -> [Request; 2] {
@@ -91,6 +105,8 @@ impl<const F: u8> NodeOf<F> {
                 }
                 self.table.tick::<F>(settings.forget);
             }
+            // Each of these is an event of its own; `record` gives them one by one.
+            Event::Ticks(_) => {}
             Event::Link(at, status) => self.spans[at].link::<F>(status, settings),
             Event::Keepalive(at) => self.spans[at].keepalive(),
             Event::Operator(at, request) => self.spans[at].operator::<F>(request),
@@ -174,6 +190,12 @@ impl<const F: u8> NodeOf<F> {
 
     /// The closing steps: WTR, the purge, the report. True if a report is to be written.
     fn close(&mut self, before: [Request; 2], tick: bool) -> bool {
+        self.settle(before);
+        self.pace(tick)
+    }
+
+    /// The closing steps but for the report.
+    fn settle(&mut self, before: [Request; 2]) {
         for (span, before) in self.spans.iter_mut().zip(before) {
             span.close(before, &self.settings);
         }
@@ -185,6 +207,10 @@ impl<const F: u8> NodeOf<F> {
                 }
             }
         }
+    }
+
+    /// The last closing step. True if a report is to be written.
+    fn pace(&mut self, tick: bool) -> bool {
         let pair = self.own_pair();
         self.pacer.step::<F>(pair, tick, &self.settings)
     }

@@ -4,9 +4,10 @@
 use std::io::{self, Read, Write};
 
 use crate::bandwidth::Free;
+use crate::faults::{wrong, Fault};
 use crate::node::NodeOf;
 use crate::program::{self, Program};
-use crate::records::{self, BAD_FIELD, BAD_LENGTH, REPORT_BYTES};
+use crate::records::{self, BAD_FIELD, BAD_LENGTH, OUTPUT_ROOM, REPORT_BYTES};
 
 /// The kind of the planner's question.
 const QUESTION: u16 = 41;
@@ -34,7 +35,12 @@ impl<const F: u8> Program<F> for Planner {
         if let Ok((QUESTION, body)) = records::split(record) {
             return line(&answer(node, body), output);
         }
-        node.record(record, &mut [0; REPORT_BYTES]);
+        let room = if wrong::<F>(Fault::PlannerRoomOfOne) {
+            REPORT_BYTES
+        } else {
+            OUTPUT_ROOM
+        };
+        node.record(record, &mut [0; OUTPUT_ROOM][..room]);
         Ok(())
     }
 

@@ -1,9 +1,10 @@
 //! House records: their head, the bodies of the events, and the report to send.
 //! Reading gives an event or the number of the refusal; it never looks at the state.
 
+use crate::faults::{wrong, Fault};
 use crate::spans::{Request, Status};
 
-/// Output room below 7 bytes.
+/// Output room below 7 bytes, or below 7 for each tick of kind 7.
 pub const NO_ROOM: u8 = 1;
 /// Fewer than 4 bytes, length not bytes - 2, or length above 1,033.
 pub const BAD_LENGTH: u8 = 2;
@@ -38,6 +39,10 @@ pub const LONGEST: usize = 1_033;
 pub const RECORD_ROOM: usize = LONGEST + 2;
 /// Bytes of a report to send.
 pub const REPORT_BYTES: usize = 7;
+/// The most ticks of one record.
+pub const MOST_TICKS: u16 = 1_000;
+/// Output room that suffices for every record: a report for each tick.
+pub const OUTPUT_ROOM: usize = REPORT_BYTES * MOST_TICKS as usize;
 /// The greatest hop number.
 pub const HIGHEST_HOP: u8 = 63;
 
@@ -74,7 +79,7 @@ pub struct Report {
     pub requests: [Request; 2],
 }
 
-/// Kinds 1 to 6.
+/// Kinds 1 to 7.
 #[derive(Clone, Copy, Debug)]
 pub enum Event<'a> {
     /// One millisecond has passed.
@@ -89,6 +94,8 @@ pub enum Event<'a> {
     Report(Report),
     /// A station's attribute block came: span, address, block.
     Attributes(usize, u64, &'a [u8]),
+    /// So many milliseconds have passed.
+    Ticks(u16),
 }
 
 /// Takes the head off: kind and body, or 2.
@@ -104,15 +111,18 @@ pub fn split(record: &[u8]) -> Result<(u16, &[u8]), u8> {
 }
 
 /// Reads an event record, or gives 2, 3 or 4.
-pub fn event(record: &[u8]) -> Result<Event<'_>, u8> {
+pub fn event<const F: u8>(record: &[u8]) -> Result<Event<'_>, u8> {
     let (kind, body) = split(record)?;
     let read = match (kind, body) {
+        (7, _) if wrong::<F>(Fault::Kind7Unknown) => return Err(BAD_KIND),
+        (8, body) if wrong::<F>(Fault::Kind8Taken) => ticks::<F>(body),
         (1, []) => Some(Event::Tick),
         (2, &[at, status]) => link(at, status),
         (3, &[at]) => span(at).map(Event::Keepalive),
         (4, &[at, request]) => operator(at, request),
         (5, body) => report(body),
         (6, [at, a, b, c, d, e, f, block @ ..]) => attributes(*at, [*a, *b, *c, *d, *e, *f], block),
+        (7, body) => ticks::<F>(body),
         (1..=6, _) => None,
         _ => return Err(BAD_KIND),
     };
@@ -159,6 +169,35 @@ fn attributes(at: u8, bytes: [u8; 6], block: &[u8]) -> Option<Event<'_>> {
     Some(Event::Attributes(span(at)?, address, block))
 }
 
+/// The count has two bytes, the low one first, and goes from 1 to 1,000.
+fn ticks<'a, const F: u8>(body: &[u8]) -> Option<Event<'a>> {
+    let count = count::<F>(body)?;
+    let least = u16::from(!wrong::<F>(Fault::CountZeroTaken));
+    let most = if wrong::<F>(Fault::Count1000Refused) {
+        MOST_TICKS - 1
+    } else if wrong::<F>(Fault::CountUnlimited) {
+        u16::MAX
+    } else {
+        MOST_TICKS
+    };
+    (least..=most)
+        .contains(&count)
+        .then_some(Event::Ticks(count))
+}
+
+fn count<const F: u8>(body: &[u8]) -> Option<u16> {
+    match *body {
+        [high, low] if wrong::<F>(Fault::CountHighFirst) => Some(u16::from_be_bytes([high, low])),
+        [low, _] if wrong::<F>(Fault::CountInOneByte) => Some(u16::from(low)),
+        [low, high] => Some(u16::from_le_bytes([low, high])),
+        [low, high, _] if wrong::<F>(Fault::LongerBodyTaken) => {
+            Some(u16::from_le_bytes([low, high]))
+        }
+        [low] if wrong::<F>(Fault::ShorterBodyTaken) => Some(u16::from(low)),
+        _ => None,
+    }
+}
+
 /// A report to send, kind 16.
 pub fn report_to_send(sequence: u8, pair: [Request; 2]) -> [u8; REPORT_BYTES] {
     [5, 0, 16, 0, sequence, pair[0] as u8, pair[1] as u8]
@@ -167,6 +206,7 @@ pub fn report_to_send(sequence: u8, pair: [Request; 2]) -> [u8; REPORT_BYTES] {
 #[cfg(test)]
 mod tests {
     use super::*;
+    use crate::faults::RIGHT;
 
     #[test]
     fn heads_that_do_not_fit_are_2() {
@@ -192,10 +232,41 @@ mod tests {
 
     #[test]
     fn kinds_have_sixteen_bits() {
-        assert_eq!(event(&[2, 0, 1, 1]).unwrap_err(), BAD_KIND);
-        assert_eq!(event(&[2, 0, 0, 0]).unwrap_err(), BAD_KIND);
-        assert_eq!(event(&[2, 0, 7, 0]).unwrap_err(), BAD_KIND);
-        assert!(event(&[2, 0, 1, 0]).is_ok());
+        let event = |record: [u8; 4]| event::<RIGHT>(&record).map(|_| ());
+        assert_eq!(event([2, 0, 1, 1]), Err(BAD_KIND));
+        assert_eq!(event([2, 0, 0, 0]), Err(BAD_KIND));
+        assert_eq!(event([2, 0, 8, 0]), Err(BAD_KIND));
+        assert_eq!(event([2, 0, 7, 1]), Err(BAD_KIND));
+        assert_eq!(event([2, 0, 1, 0]), Ok(()));
+    }
+
+    /// The count that a body of kind 7 has, or the refusal.
+    fn ticks(body: &[u8]) -> Result<u16, u8> {
+        let head = [2 + body.len() as u8, 0, 7, 0];
+        match event::<RIGHT>(&[&head, body].concat())? {
+            Event::Ticks(count) => Ok(count),
+            event => panic!("{event:?}"),
+        }
+    }
+
+    #[test]
+    fn many_ticks_have_two_bytes_low_byte_first() {
+        assert_eq!(ticks(&[1, 0]), Ok(1));
+        assert_eq!(ticks(&[2, 0]), Ok(2));
+        assert_eq!(ticks(&[0, 1]), Ok(256));
+        assert_eq!(ticks(&[1, 2]), Ok(513));
+        assert_eq!(ticks(&[0xE8, 3]), Ok(1_000));
+        for body in [
+            &[][..],
+            &[1],
+            &[1, 0, 0],
+            &[0, 0],
+            &[0xE9, 3],
+            &[3, 0xE8],
+            &[255, 255],
+        ] {
+            assert_eq!(ticks(body), Err(BAD_FIELD), "{body:?}");
+        }
     }
 
     #[test]

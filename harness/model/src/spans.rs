@@ -148,13 +148,28 @@ impl Span {
 
     /// A tick passes.
     pub fn tick<const F: u8>(&mut self, settings: &Settings) {
+        self.grow_silent(settings);
+        self.hold();
+        self.wait::<F>();
+    }
+
+    /// The keepalive age rises, up to the setting.
+    pub fn grow_silent(&mut self, settings: &Settings) {
         self.age = settings.keepalive.min(self.age + 1);
+    }
+
+    /// Hold-off falls; at its end the stored status comes into force.
+    pub fn hold(&mut self) {
         if self.hold_off > 0 {
             self.hold_off -= 1;
             if self.hold_off == 0 {
                 self.in_force = self.link;
             }
         }
+    }
+
+    /// WTR falls.
+    pub fn wait<const F: u8>(&mut self) {
         if !wrong::<F>(Fault::WtrWaitsUnderMs) || self.operator != Request::Ms {
             self.wtr = self.wtr.saturating_sub(1);
         }

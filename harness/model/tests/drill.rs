@@ -69,3 +69,29 @@ fn the_longest_record_is_read_whole() {
     let said = say_after_settings(&[&longest, TICK]);
     assert_eq!(said, "1 7 0 0 0 0 0\n2 0 0 0 0 0 0\n");
 }
+
+#[test]
+fn many_ticks_have_one_line_with_the_number_of_their_reports() {
+    let said = say_after_settings(&[
+        &[4, 0, 7, 0, 30, 0],
+        &[4, 0, 7, 0, 0xE8, 3],
+        &[4, 0, 7, 0, 0, 0],
+        &[4, 0, 7, 0, 0xE9, 3],
+        &[3, 0, 7, 0, 1],
+        &[5, 0, 7, 0, 1, 0, 0],
+        &[4, 0, 8, 0, 1, 0],
+        TICK,
+    ]);
+    let lines = [
+        "1 0 0 0 0 0 3",
+        // Tick 40, the change at 50, 60 to 130, then 230 to 1,030.
+        "2 0 4 4 1 0 19",
+        "3 4 4 4 1 0 0",
+        "4 4 4 4 1 0 0",
+        "5 4 4 4 1 0 0",
+        "6 4 4 4 1 0 0",
+        "7 3 4 4 1 0 0",
+        "8 0 4 4 1 0 0",
+    ];
+    assert_eq!(said, lines.join("\n") + "\n");
+}

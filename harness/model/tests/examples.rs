@@ -182,6 +182,6 @@ fn p11_p12_ways() {
 fn a_written_report_has_the_own_pair() {
     let mut node = started(2, 0);
     let mut out = [0xEE; 9];
-    assert_eq!(node.record(&link(1, 2), &mut out), (0, true));
+    assert_eq!(node.record(&link(1, 2), &mut out), (0, 1));
     assert_eq!(out, [5, 0, 16, 0, 1, 0, 4, 0xEE, 0xEE]);
 }

@@ -24,7 +24,7 @@ impl Chance {
         if self.below(4) == 0 {
             byte
         } else {
-            byte % 6
+            byte % 8
         }
     }
 
@@ -50,7 +50,7 @@ fn random_records() {
             let at = chance.next() as usize % record.len();
             record[at] = chance.byte();
         }
-        let room = if chance.below(8) == 0 { 6 } else { 7 };
+        let room = [6, 7, 7, 7, 20, 70, 7_000, 7_000][chance.below(8) as usize];
         node.record(&record, &mut vec![0; room]);
         assert!(node.station_count() <= 63);
         let address = chance.next() >> chance.below(64);

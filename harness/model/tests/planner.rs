@@ -68,6 +68,25 @@ fn each_question_has_a_line_and_nothing_else_has() {
 }
 
 #[test]
+fn many_ticks_pass_and_have_no_line() {
+    let rate = question(2_000, [0, 0]);
+    let said = say_after_settings(&[
+        B,
+        RESERVED,
+        &[4, 0, 7, 0, 49, 0],
+        &rate,
+        // Refused: nothing passes.
+        &[4, 0, 7, 0, 0xE9, 3],
+        &[3, 0, 7, 0, 9],
+        &rate,
+        // Both spans have been silent for 50 ticks with the first of these.
+        &[4, 0, 7, 0, 0xE8, 3],
+        &rate,
+    ]);
+    assert_eq!(said, "0 0 1000 1742 0\n0 0 1000 1742 0\n0 0 2000 2000 0\n");
+}
+
+#[test]
 fn a_question_of_another_length_is_4_and_the_plan_goes_on() {
     let whole = question(1_000, [0, 0]);
     let mut longest = vec![0x09, 0x04, 41, 0];

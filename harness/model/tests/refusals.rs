@@ -16,7 +16,7 @@ fn started() -> Node {
 
 fn with_station() -> Node {
     let mut node = started();
-    assert_eq!(node.record(&REPORT, &mut [0; 7]), (0, false));
+    assert_eq!(node.record(&REPORT, &mut [0; 7]), (0, 0));
     node
 }
 
@@ -32,8 +32,8 @@ fn changed<const N: usize>(record: [u8; N], changes: &[(usize, u8)]) -> [u8; N] 
 fn refused(node: &mut Node, record: &[u8]) -> u8 {
     let before = format!("{node:?}");
     let mut out = [0xEE; 7];
-    let (result, wrote) = node.record(record, &mut out);
-    assert!(!wrote);
+    let (result, reports) = node.record(record, &mut out);
+    assert_eq!(reports, 0);
     assert_eq!(out, [0xEE; 7]);
     assert_eq!(before, format!("{node:?}"), "state after {record:?}");
     result
@@ -45,7 +45,7 @@ fn number_1_comes_first() {
     let before = format!("{node:?}");
     for record in [&[][..], &[2, 0, 1, 0], &[1, 2, 3]] {
         let mut out = [0xEE; 6];
-        assert_eq!(node.record(record, &mut out), (1, false));
+        assert_eq!(node.record(record, &mut out), (1, 0));
         assert_eq!(out, [0xEE; 6]);
     }
     assert_eq!(before, format!("{node:?}"));
@@ -66,17 +66,18 @@ fn number_2() {
 #[test]
 fn number_3_before_the_body_length() {
     let mut node = started();
-    for kind in [0, 7, 15, 16, 32, 33, 34, 40, 48, 255] {
+    for kind in [0, 8, 9, 15, 16, 32, 33, 34, 40, 48, 255] {
         assert_eq!(refused(&mut node, &[2, 0, kind, 0]), 3);
         assert_eq!(refused(&mut node, &[4, 0, kind, 0, 9, 9]), 3);
     }
     assert_eq!(refused(&mut node, &[2, 0, 1, 1]), 3);
+    assert_eq!(refused(&mut node, &[4, 0, 7, 1, 1, 0]), 3);
 }
 
 #[test]
 fn number_4_for_body_lengths() {
     let mut node = with_station();
-    let bodies = [(1, 0), (2, 2), (3, 1), (4, 2), (5, 12)];
+    let bodies = [(1, 0), (2, 2), (3, 1), (4, 2), (5, 12), (7, 2)];
     for (kind, good) in bodies {
         for length in (0..20).filter(|&length| length != good) {
             let mut record = vec![2 + length, 0, kind, 0];
@@ -104,6 +105,10 @@ fn number_4_for_fields() {
     assert_eq!(refused(&mut node, &[3, 0, 3, 0, 2]), 4);
     for (at, byte) in [(4, 2), (5, 2), (6, 0), (7, 3), (14, 6), (15, 6)] {
         assert_eq!(refused(&mut node, &changed(REPORT, &[(at, byte)])), 4);
+    }
+    for count in [0, 1_001, 0xE803, 65_535_u16] {
+        let [low, high] = count.to_le_bytes();
+        assert_eq!(refused(&mut node, &[4, 0, 7, 0, low, high]), 4, "{count}");
     }
     for (at, byte) in [(4, 2), (5, 3)] {
         assert_eq!(refused(&mut node, &changed(ATTRIBUTES, &[(at, byte)])), 4);
@@ -137,23 +142,23 @@ fn numbers_7_and_8_after_21() {
     assert_eq!(refused(&mut node, &malformed), 8);
     assert_eq!(refused(&mut node, &changed(malformed, &[(10, 9)])), 7);
     node.record(&[4, 0, 2, 0, 0, 2], &mut [0; 7]);
-    assert_eq!(node.record(&unknown, &mut [0; 7]), (21, false));
-    assert_eq!(node.record(&malformed, &mut [0; 7]), (21, false));
+    assert_eq!(node.record(&unknown, &mut [0; 7]), (21, 0));
+    assert_eq!(node.record(&malformed, &mut [0; 7]), (21, 0));
 }
 
 #[test]
 fn number_20_sets_the_mark_at_hop_1_alone() {
     let mut node = with_station();
     let far = changed(REPORT, &[(5, 1), (6, 254)]);
-    assert_eq!(node.record(&far, &mut [0; 7]), (20, false));
+    assert_eq!(node.record(&far, &mut [0; 7]), (20, 0));
     assert_eq!((node.west_request(), node.station_count()), (0, 1));
     let near = changed(REPORT, &[(5, 1)]);
-    assert_eq!(node.record(&near, &mut [0; 7]), (20, true));
+    assert_eq!(node.record(&near, &mut [0; 7]), (20, 1));
     assert_eq!((node.west_request(), node.station_count()), (4, 0));
     // Only a right report at hop 1 clears it, and is learned in the same event.
     let right = changed(REPORT, &[(6, 254)]);
-    assert_eq!(node.record(&right, &mut [0; 7]), (21, false));
-    assert_eq!(node.record(&REPORT, &mut [0; 7]), (0, true));
+    assert_eq!(node.record(&right, &mut [0; 7]), (21, 0));
+    assert_eq!(node.record(&REPORT, &mut [0; 7]), (0, 1));
     assert_eq!((node.west_request(), node.station_count()), (0, 1));
 }
 
@@ -161,9 +166,9 @@ fn number_20_sets_the_mark_at_hop_1_alone() {
 fn numbers_22_23_24() {
     let mut node = with_station();
     let old = changed(REPORT, &[(13, 6)]);
-    assert_eq!(node.record(&old, &mut [0; 7]), (22, false));
+    assert_eq!(node.record(&old, &mut [0; 7]), (22, 0));
     let unknown = [13, 0, 6, 0, 0, 2, 0, 0, 0, 0, 2, 0x80, 0, 0, 0];
-    assert_eq!(node.record(&unknown, &mut [0; 7]), (24, false));
+    assert_eq!(node.record(&unknown, &mut [0; 7]), (24, 0));
     let behind = Shown {
         reply: 1,
         ..Shown::default()
@@ -174,7 +179,7 @@ fn numbers_22_23_24() {
         assert_eq!(node.record(&report, &mut [0; 7]).0, 0);
     }
     let newcomer = changed(REPORT, &[(4, 1), (5, 1), (12, 200)]);
-    assert_eq!(node.record(&newcomer, &mut [0; 7]), (23, false));
+    assert_eq!(node.record(&newcomer, &mut [0; 7]), (23, 0));
     assert_eq!(node.station_count(), 63);
 }
 

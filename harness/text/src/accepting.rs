@@ -427,6 +427,21 @@ tick 1 keepalive 2  => 9..11 0 0 0 0 0 0
     }
 
     #[test]
+    fn ticks_that_share_a_record_are_one_line() {
+        let source =
+            "settings short\nticks 30\nbytes 04 00 07 00 E8 03 02 00 01 00 04 00 07 00 01 00\n";
+        let printed = "1 0 4 4 1 0 3\n2 0 4 4 1 0 20\n3 0 4 4 1 0 0\n4 0 4 4 1 0 0\n";
+        let wanted = "settings short\nticks 30    => 1 0 4 4 1 0 3\nticks 1000  => 2 0 4 4 1 0 20\ntick        => 3 0 4 4 1 0 0\nticks 1     => 4 0 4 4 1 0 0\n";
+        assert_eq!(accepted(source, printed), (wanted.to_string(), 0));
+        let other = "# reports by hand: 22\nsettings short\nticks 30 => 1 0 4 4 1 0 2 # by hand\nticks 1000\ntick\nticks 1\n";
+        let (text, kept) = accepted(other, printed);
+        assert!(
+            text.contains("=> 1 0 4 4 1 0 2  # by hand") && kept == 2,
+            "{text}"
+        );
+    }
+
+    #[test]
     fn blanks_at_the_beginning_stay() {
         let source = "# a\n  # b\nsettings short\n\ttick  => 1 0 0 0 0 0 0\n\n";
         assert_eq!(accepted(source, "1 0 0 0 0 0 0\n").0, source);

@@ -226,8 +226,8 @@ mod tests {
             ("2 0 0 4 0 0 0", "east"),
             ("2 0 0 0 1 0 0", "sequence"),
             ("2 0 0 0 0 63 0", "stations"),
-            ("2 0 0 0 0 0 1", "report"),
-            ("2 22 3 0 1 0 1", "result, west, sequence, report"),
+            ("2 0 0 0 0 0 1", "reports"),
+            ("2 22 3 0 1 0 1", "result, west, sequence, reports"),
         ];
         for (expected, fields) in cases {
             let (found, _) = check(&format!(

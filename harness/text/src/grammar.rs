@@ -29,6 +29,7 @@ const FIRST: &[&str] = &[
     "name",
     "settings",
     "tick",
+    "ticks",
     "link",
     "keepalive",
     "operator",
@@ -46,6 +47,8 @@ pub(crate) fn content(words: &mut Words, names: &mut Names) -> Result<Option<Run
     let record = match words.one_of(FIRST)? {
         "name" => return name(words, names).map(|()| None),
         "tick" => return ticks(words).map(Some),
+        // One record of kind 7, with any count, so that a bad one can be tried.
+        "ticks" => Record::Ticks(words.two_bytes()?),
         "settings" => settings(words, names)?,
         "link" => Record::Link(words.code(SPANS)?, words.code(STATUSES)?),
         "keepalive" => Record::Keepalive(words.code(SPANS)?),

@@ -22,6 +22,8 @@ pub enum Record {
     Report(Report),
     /// Kind 6: span, address and block.
     Attributes(u8, u64, Bytes),
+    /// Kind 7: how many ticks.
+    Ticks(u16),
     /// Kind 40, with the address asked for.
     Way(u64),
     /// What the words cannot say: another kind, a wrong body length, a cut record.
@@ -40,6 +42,7 @@ impl Record {
             Record::Operator(span, request) => records::operator(*span, *request),
             Record::Report(report) => records::report(report),
             Record::Attributes(span, address, block) => records::attributes(*span, *address, block),
+            Record::Ticks(count) => records::ticks(*count),
             Record::Way(address) => records::question(*address),
             Record::Bytes(bytes) => bytes.clone(),
         }
@@ -80,6 +83,7 @@ fn said(kind: u16, body: &[u8]) -> Option<Record> {
             let (from, block) = rest.split_first_chunk()?;
             Record::Attributes(*span, records::address(*from), block.to_vec())
         }
+        (7, [low, high]) => Record::Ticks(u16::from_le_bytes([*low, *high])),
         (32, body) => Record::Settings(settings(body.try_into().ok()?)),
         (33, body) => Record::ShortSettings(records::address(body.try_into().ok()?)),
         (40, body) => Record::Way(records::address(body.try_into().ok()?)),
@@ -134,6 +138,7 @@ mod tests {
             }),
             Record::Attributes(1, 0x0203_0405_0607, vec![8, 9]),
             Record::Attributes(1, 0x0203_0405_0607, vec![0; records::LONGEST_BLOCK]),
+            Record::Ticks(0x0102),
             Record::Way(0x0203_0405_0607),
         ]
     }

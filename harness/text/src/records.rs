@@ -87,6 +87,11 @@ pub fn attributes(span: u8, address: u64, block: &[u8]) -> Bytes {
     record(6, &body)
 }
 
+/// Kind 7: so many ticks, the low byte first.
+pub fn ticks(count: u16) -> Bytes {
+    record(7, &count.to_le_bytes())
+}
+
 /// What kind 32 carries, in the units of the record.
 #[derive(Clone, Copy, Debug, PartialEq, Eq)]
 pub struct Settings {

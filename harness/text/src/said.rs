@@ -80,7 +80,7 @@ pub fn fields(count: usize) -> &'static [&'static str] {
         2 => &["number", "refusal"],
         3 => &["number", "way", "reply"],
         _ => &[
-            "number", "result", "west", "east", "sequence", "stations", "report",
+            "number", "result", "west", "east", "sequence", "stations", "reports",
         ],
     }
 }

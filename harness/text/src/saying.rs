@@ -51,9 +51,12 @@ pub fn say(play: &Play, names: &Names, stays: &[Stay], each: &mut dyn FnMut(&str
 
 /// Ticks and keepalives that leave all as it is.
 fn is_alike(one: &Told, next: &Told) -> bool {
-    let is_time = |told: &Told| matches!(told.record, Record::Tick | Record::Keepalive(0 | 1));
+    let is_time = |told: &Told| {
+        let passes = matches!(told.record, Record::Tick | Record::Ticks(_));
+        passes || matches!(told.record, Record::Keepalive(0 | 1))
+    };
     let answer = |told: &Told| match Said::of(told.line.as_deref()?)? {
-        Said::Line(_, Answer::Full(full)) if full.reports == 0 => Some(full),
+        Said::Line(_, Answer::Full(full)) if full.result == 0 && full.reports == 0 => Some(full),
         _ => None,
     };
     let same = answer(one).is_some() && answer(one) == answer(next);
@@ -73,16 +76,30 @@ fn rows_of(group: &[Told], is_first: bool, moves: &str, names: &Names) -> Row {
     let number = |line: &str| line.split(' ').next().unwrap_or("").to_string();
     let to = number(last.line.as_deref().unwrap_or(""));
     let (from, rest) = line.split_once(' ').unwrap_or((&line, ""));
-    let ticks = group
-        .iter()
-        .filter(|told| told.record == Record::Tick)
-        .count();
-    let record = match (ticks, group.len() - ticks) {
-        (ticks, 0) => format!("tick {ticks}"),
-        (0, keepalives) => format!("{keepalives} keepalives"),
-        (ticks, keepalives) => format!("{ticks} ticks, {keepalives} keepalives"),
+    Row([format!("{from}..{to} {rest}"), time(group), result, stand])
+}
+
+/// Ticks and keepalives in words. Where ticks share a record, the number of records is told.
+fn time(group: &[Told]) -> String {
+    let ticks = group.iter().filter_map(|told| match told.record {
+        Record::Tick => Some(1),
+        Record::Ticks(count) => Some(usize::from(count)),
+        _ => None,
+    });
+    let (ticks, records) = ticks.fold((0, 0), |(ticks, records), count| {
+        (ticks + count, records + 1)
+    });
+    let shared = match records {
+        _ if ticks == records => String::new(),
+        1 => " in 1 record".to_string(),
+        records => format!(" in {records} records"),
     };
-    Row([format!("{from}..{to} {rest}"), record, result, stand])
+    match (ticks, group.len() - records) {
+        (ticks, 0) if shared.is_empty() => format!("tick {ticks}"),
+        (ticks, 0) => format!("{ticks} ticks{shared}"),
+        (0, keepalives) => format!("{keepalives} keepalives"),
+        (ticks, keepalives) => format!("{ticks} ticks{shared}, {keepalives} keepalives"),
+    }
 }
 
 /// A line that no record accounts for; an empty drill has one.
@@ -222,6 +239,7 @@ fn bad_field(record: &Record) -> &'static str {
         Record::Report(report) if is_odd(report.address) => "odd first address byte",
         Record::Report(_) => "reported request above 5",
         Record::Attributes(_, address, _) if is_odd(*address) => "odd first address byte",
+        Record::Ticks(_) => "count of ticks not from 1 to 1,000",
         _ => "field out of range",
     }
 }
@@ -240,7 +258,7 @@ fn marked(record: &Record) -> &'static str {
     }
 }
 
-/// Requests by name, stations, and the report sent.
+/// Requests by name, stations, and the report sent; of several the last has the own sequence.
 fn stand(full: &Full) -> String {
     let [west, east] = full.requests.map(request);
     let stations = match full.stations {
@@ -250,7 +268,8 @@ fn stand(full: &Full) -> String {
     };
     let sent = match full.reports {
         0 => String::new(),
-        _ => format!(", report {} sent", full.sequence),
+        1 => format!(", report {} sent", full.sequence),
+        reports => format!(", {reports} reports sent, the last {}", full.sequence),
     };
     format!("west {west}, east {east}, {stations}{sent}")
 }
@@ -306,6 +325,11 @@ report west from 03-00-00-00-00-02 hop 1 => 1 4 0 0 0 0 0 | odd first address by
 report west from 02-00-00-00-00-02 hop 1 6 0 => 1 4 0 0 0 0 0 | reported request above 5 (4): refused
 attributes east from 03-00-00-00-00-02 => 1 4 0 0 0 0 0 | odd first address byte (4): refused
 bytes 03 00 01 00 00 => 1 4 0 0 0 0 0 | wrong body length (4): refused
+ticks 30 => 1 0 0 0 0 0 3 | taken (0)
+ticks 0 => 1 4 0 0 0 0 0 | count of ticks not from 1 to 1,000 (4): refused
+ticks 1001 => 1 4 0 0 0 0 0 | count of ticks not from 1 to 1,000 (4): refused
+bytes 03 00 07 00 01 => 1 4 0 0 0 0 0 | wrong body length (4): refused
+bytes 04 00 08 00 01 00 => 1 3 0 0 0 0 0 | not an event (3): refused
 report west from 02-00-00-00-00-02 hop 1 => 1 5 0 0 0 0 0 | own address heard (5): refused
 report west from 02-00-00-00-00-02 hop 64 => 1 6 0 0 0 0 0 | hop above 63 (6): refused
 attributes east from 02-00-00-00-00-02 => 1 7 0 0 0 0 0 | attributes of a station not in the table (7): refused
@@ -376,6 +400,31 @@ bytes 00 00 => 1 2 | cut, or a length outside 2 to 1,033 (2): the drill ends
             rows[0].contains("| 3 ticks, 2 keepalives ") && rows[4].contains("| tick 3 "),
             "{said}"
         );
+    }
+
+    #[test]
+    fn ticks_that_share_a_record_are_time_too() {
+        let said = said(
+            "settings short\nticks 30\nticks 2\nkeepalive west\ntick\nticks 30\nticks 30\nticks 0\nticks 5\nticks 9\n",
+            "1 0 0 0 0 0 0\n2 0 0 0 0 0 0\n3 0 0 0 0 0 0\n4 0 0 0 0 0 0\n5 0 0 0 0 0 3\n6 0 4 0 1 0 4\n7 4 4 0 1 0 0\n8 0 4 0 1 0 0\n9 0 4 0 1 0 0\n",
+        );
+        let rows: Vec<&str> = said.lines().skip(1).collect();
+        let words = [
+            (
+                "1..4 0 0 0 0 0 0 ",
+                "| 33 ticks in 3 records, 1 keepalives ",
+            ),
+            ("5 0 0 0 0 0 3 ", "| ticks 30 "),
+            ("6 0 4 0 1 0 4 ", "| ticks 30 "),
+            ("7 4 4 0 1 0 0 ", "| ticks 0 "),
+            ("8..9 0 4 0 1 0 0 ", "| 14 ticks in 2 records "),
+        ];
+        assert_eq!(rows.len(), words.len(), "{said}");
+        for (row, (line, record)) in rows.iter().zip(words) {
+            assert!(row.starts_with(line) && row.contains(record), "{said}");
+        }
+        assert!(rows[1].ends_with("no station, 3 reports sent, the last 0"));
+        assert!(rows[2].ends_with("no station, 4 reports sent, the last 1"));
     }
 
     #[test]

@@ -116,7 +116,8 @@ impl Table {
     /// A record that was taken.
     fn take(&mut self, place: usize, record: &Record) {
         match record {
-            Record::Tick => self.tick(place),
+            Record::Tick => self.pass(place, 1),
+            Record::Ticks(count) => self.pass(place, u64::from(*count)),
             Record::Report(report) => {
                 let hop = report.ttl.wrapping_neg();
                 self.hear(place, report.address, usize::from(report.span), hop);
@@ -125,8 +126,9 @@ impl Table {
         }
     }
 
-    fn tick(&mut self, place: usize) {
-        self.ticks += 1;
+    /// Ticks pass. A span that fails within them has failed after them too, so that the purge may come last.
+    fn pass(&mut self, place: usize, ticks: u64) {
+        self.ticks += ticks;
         let (now, forget) = (self.ticks, self.forget);
         self.leave(place, |open| now - open.renewed >= forget);
     }

@@ -29,7 +29,7 @@ pub fn plain(records: &[Record]) -> String {
     lines.collect()
 }
 
-/// So many ticks in words.
+/// So many ticks in words, each a record of its own.
 pub fn ticks(count: usize) -> String {
     format!("tick {count}")
 }
@@ -56,6 +56,7 @@ pub fn words(record: &Record, names: &Names) -> String {
                 attributes(block)
             )
         }
+        Record::Ticks(count) => format!("ticks {count}"),
         Record::Way(address) => format!("way {}", names.of(*address)),
         Record::Bytes(bytes) => format!("bytes {}", hex::list(bytes)).trim_end().to_string(),
     }

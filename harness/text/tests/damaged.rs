@@ -50,6 +50,7 @@ name B 02-00-00-00-00-02
 settings level 1 address 02:00:00:00:00:01 wtr 1 hold-off 3 keepalive 50 fast 1 slow 1 forget 2
 tick 30 keepalive 20
 tick => 31 0 0 0 0 0 0
+ticks 30 => 32 0 0 0 0 0 30
 link west failed
 keepalive east
 operator west none
@@ -81,7 +82,7 @@ fn damage(chance: &mut Chance, words: &str) -> String {
         0 => list[0].push('q'),
         1 => {
             list[0] = chance
-                .pick(&["ticks", "reprot", "02", "=", "West", "-"])
+                .pick(&["tikcs", "reprot", "02", "=", "West", "-"])
                 .to_string()
         }
         2 => list.push("0.5".to_string()),
@@ -90,7 +91,7 @@ fn damage(chance: &mut Chance, words: &str) -> String {
         5 if first != "bytes" => list.insert(1, "99999999999999999999".to_string()),
         6 => list.push("=> 1 0 0 0 0".to_string()),
         7 => list.push("=> 1 0 0 0 0 0 0 => 1".to_string()),
-        8 if ["link", "operator", "keepalive", "way", "name"].contains(&&first[..]) => {
+        8 if ["link", "operator", "keepalive", "way", "name", "ticks"].contains(&&first[..]) => {
             list.pop();
         }
         _ => list.push("*".to_string()),

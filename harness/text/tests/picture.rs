@@ -232,10 +232,12 @@ fn every_report_sent_has_its_mark() {
     let mut marks = 0;
     for (drill, picture) in pictures() {
         let lines = drill.lines.lines().filter_map(Said::of);
-        let sent = lines
-            .filter(|said| matches!(said, Said::Line(_, Answer::Full(full)) if full.reports > 0));
+        let sent = lines.map(|said| match said {
+            Said::Line(_, Answer::Full(full)) => usize::from(full.reports),
+            _ => 0,
+        });
         let drawn = with_class(strips(&picture), "sent").len();
-        assert_eq!(drawn, sent.count(), "{}", drill.name);
+        assert_eq!(drawn, sent.sum::<usize>(), "{}", drill.name);
         marks += drawn;
     }
     assert!(marks > 500, "{marks}");
@@ -384,6 +386,51 @@ link east failed => 4 0 0 4 1 1 1
 }
 
 #[test]
+fn ticks_that_share_a_record_are_drawn_as_time() {
+    let source = "\
+settings address 02-00-00-00-00-01 keepalive 50
+link west good => 1 0 0 0 0 0 0
+ticks 30 => 2 0 0 0 0 0 3
+ticks 1001 => 3 4 0 0 0 0 0
+ticks 10 => 4 0 0 0 0 0 1
+tick => 5 0 0 0 0 0 0
+ticks 60 => 6 0 4 4 1 0 6
+";
+    let picture = Drill::of("shared", source.into()).draw().unwrap();
+    let strips = strips(&picture);
+    assert_eq!(with_class(strips, "sent").len(), 10);
+    for words in ["30 ticks", "71 ticks", "ticks 1001"] {
+        assert!(strips.contains(&format!(">{words}</text>")), "{words}");
+    }
+    // The four with sequence 0, and of the last six the last; which of the others had it is not printed.
+    assert_eq!(with_class(strips, "sequence").len(), 5);
+}
+
+#[test]
+fn who_is_forgotten_or_purged_within_a_record_has_left() {
+    let source = "\
+settings address 02-00-00-00-00-01 keepalive 50 forget 2
+report west from 02-00-00-00-00-02 hop 1 => 1 0 0 0 0 1 0
+ticks 40 => 2 0 0 0 0 1 4
+keepalive west => 3 0 0 0 0 1 0
+report west from 02-00-00-00-00-03 hop 2 => 4 0 0 0 0 2 0
+report east from 02-00-00-00-00-03 hop 2 => 5 0 0 0 0 2 0
+ticks 20 => 6 0 0 4 1 2 2
+ticks 139 => 7 0 0 4 1 2 9
+ticks 2 => 8 0 0 4 1 1 0
+";
+    // What is printed has only to agree with itself here: nobody keeps the west span alive.
+    let play = Drill::of("left", source.into()).play();
+    let stays = follow(&play, &play).unwrap();
+    let [first, second] = &stays[..] else {
+        panic!("{stays:?}");
+    };
+    assert_eq!((first.from, first.to), (1, Some(8)));
+    assert_eq!((second.from, second.to), (4, None));
+    assert_eq!(second.hops, [(4, [2, 0]), (5, [2, 2]), (6, [2, 0])]);
+}
+
+#[test]
 fn drills_without_records_are_drawn_too() {
     for (source, lines, word) in [
         (&[][..], "settings 2\n", "settings refused (2)"),
@@ -456,9 +503,9 @@ fn no_bytes_and_no_lines_make_it_panic() {
         let mut records = vec![8, 0, 33, 0, 2, 0, 0, 0, 0, 1];
         let mut lines = String::new();
         for number in 1..=chance.below(30) {
-            let kind = chance.below(8) as u8;
-            let length = [0, 0, 2, 1, 2, 12, 8, 3][usize::from(kind)] as u8;
-            records.extend([length + 2, 0, if kind == 7 { 40 } else { kind }, 0]);
+            let kind = chance.below(9) as u8;
+            let length = [0, 0, 2, 1, 2, 12, 8, 2, 3][usize::from(kind)] as u8;
+            records.extend([length + 2, 0, if kind == 8 { 40 } else { kind }, 0]);
             records.extend((0..length).map(|_| chance.below(4) as u8));
             let result = [0, 0, 0, 4, 20, 24, 99][chance.below(7) as usize];
             let (west, east, sequence) = (chance.below(8), chance.below(6), chance.below(256));

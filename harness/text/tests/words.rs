@@ -15,6 +15,13 @@ const TABLE: &[(&str, &str)] = &[
     ("tick", "02 00 01 00"),
     ("tick 3", "02 00 01 00 02 00 01 00 02 00 01 00"),
     ("tick 3 keepalive 2", "03 00 03 00 00 03 00 03 00 01 02 00 01 00 02 00 01 00 03 00 03 00 00 03 00 03 00 01 02 00 01 00"),
+    ("ticks 30", "04 00 07 00 1E 00"),
+    ("ticks 0", "04 00 07 00 00 00"),
+    ("ticks 1", "04 00 07 00 01 00"),
+    ("TICKS 256", "04 00 07 00 00 01"),
+    ("ticks 1000", "04 00 07 00 E8 03"),
+    ("ticks 1001", "04 00 07 00 E9 03"),
+    ("ticks 65535", "04 00 07 00 FF FF"),
     ("link west good", "04 00 02 00 00 00"),
     ("link east degraded", "04 00 02 00 01 01"),
     ("LINK West FAILED", "04 00 02 00 00 02"),
@@ -59,13 +66,18 @@ fn each_line_stands_for_its_bytes() {
 
 /// Lines with a mistake: where it stands, what stands there, and what could.
 const MISTAKES: &[(&str, usize, &str, &str)] = &[
-    ("tock", 0, "tock", "name, settings, tick, link, keepalive, operator, report, attributes, way, bytes"),
+    ("tock", 0, "tock", "name, settings, tick, ticks, link, keepalive, operator, report, attributes, way, bytes"),
     ("name 2B 02-00-00-00-00-02", 5, "2B", "a name: a letter, then letters, digits, '-', '_' and '.', and no address"),
     ("name ab-cd-ef-ab-cd-ef 02-00-00-00-00-02", 5, "ab-cd-ef-ab-cd-ef", "a name: a letter, then letters, digits, '-', '_' and '.', and no address"),
     ("name B 02-00-00-00-00-03", 5, "B", "a name that is not taken; this one is 02-00-00-00-00-02"),
     ("name C 02-00", 7, "02-00", "an address such as 02-00-00-00-00-02"),
     ("name C 02-00-00-00-00-03 x", 25, "x", "'=>', '#' or the end of the line"),
     ("tick 0", 5, "0", "a number from 1 to 2000000, '=>', '#' or the end of the line"),
+    ("ticks", 5, "", "a number from 0 to 65535"),
+    ("ticks 65536", 6, "65536", "a number from 0 to 65535"),
+    ("ticks -1", 6, "-1", "a number from 0 to 65535"),
+    ("ticks keepalive 40", 6, "keepalive", "a number from 0 to 65535"),
+    ("ticks 30 keepalive 40", 9, "keepalive", "'=>', '#' or the end of the line"),
     ("tick 3 3", 7, "3", "keepalive, '=>', '#' or the end of the line"),
     ("tick 3 keepalive", 16, "", "a number from 1 to 2000000"),
     ("settings foo", 9, "foo", "short, address, level, wtr, hold-off, keepalive, fast, slow, forget, '=>', '#' or the end of the line"),
@@ -173,7 +185,7 @@ fn one_line_may_be_named_as_several() {
 fn a_message_points_at_the_mistake() {
     let mistakes = Text::read("tick\n\tlänk west gut # é\n".as_bytes()).unwrap_err();
     let wanted = "\
-line 2: 'länk' stands where this could stand: name, settings, tick, link, keepalive, operator, report, attributes, way, bytes
+line 2: 'länk' stands where this could stand: name, settings, tick, ticks, link, keepalive, operator, report, attributes, way, bytes
      länk west gut # é
      ^^^^";
     assert_eq!(mistakes[0].to_string(), wanted);

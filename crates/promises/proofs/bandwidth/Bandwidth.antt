@@ -20,7 +20,7 @@ use Rattle.controller.specs.Kept.{StateKept, Kept}
 use Rattle.controller.specs.Promise.{Begun}
 use Rattle.bandwidth.specs.declared.free.Free.{Free}
 use Rattle.bandwidth.specs.Free.{unreserved, refused, freeBandwidth}
-use Rattle.promises.specs.History.{Call, after, startOf, Made, callsOf, nodeAfter, Met}
+use Rattle.promises.specs.History.{Call, after, startOf, Made, madeOf, callsOf, nodeAfter, Met}
 use Rattle.promises.specs.Levels.{NoEight, knowing, withLevel, NoEightMade}
 use Rattle.promises.specs.Bandwidth.{rateTests, firstApplying, ShowsNothing, LowestBehind, rehopped, withStations, SameFree}
 use Rattle.promises.proofs.demand2.Coming.{state-after, ruled}
@@ -117,6 +117,6 @@ same-free = rules-alike
 -- To nodes of the program, as `demand3-nodes`.
 module _ (a b : List ℕ) (level : ℕ) (lower : level ≤ settingsIn b .settings .level) (equal : settingsIn a .settings ≡ withLevel level (settingsIn b .settings))
     (small large : Started) (begun-small : Begun a small) (begun-large : Begun b large) where
-  pub same-free-nodes : 2 ≤ level → (g h : List Made) → callsOf g ≡ callsOf h → Met small g → Met large h → NoEightMade h → (rate own0 own1 : ℕ)
+  pub same-free-nodes : 2 ≤ level → (g h : List Made) → madeOf g ≡ madeOf h → Met small g → Met large h → NoEightMade h → (rate own0 own1 : ℕ)
       → SameFree (stateOf (nodeAfter small g)) (stateOf (nodeAfter large h)) rate own0 own1
   same-free-nodes = nodes-alike a b level lower equal small large begun-small begun-large

@@ -12,7 +12,7 @@ use Rattle.blocks.specs.declared.attributes.Attributes.{Attributes}
 use Rattle.controller.specs.Node.{Started, stateOf}
 use Rattle.controller.specs.State.{Choice, State, started}
 use Rattle.controller.specs.Promise.{Begun}
-use Rattle.promises.specs.History.{Call, after, startOf, Made, callsOf, nodeAfter, Met}
+use Rattle.promises.specs.History.{Call, after, startOf, Made, madeOf, callsOf, nodeAfter, Met}
 use Rattle.promises.specs.Levels.{NoEight, latest, noBlocks, knowing, dressed, withLevel, NoEightMade, attributesBy}
 use Rattle.promises.specs.Bandwidth.{SameFree}
 use Rattle.promises.proofs.demand2.AfterKept.{choice-after}
@@ -39,9 +39,9 @@ module _ (c : Choice) (K : List ℕ) (sub : Sub K (c .known)) (two : among 2 K �
 -- To nodes of the program: they are those of the rules.
 module _ (a b : List ℕ) (level : ℕ) (lower : level ≤ settingsIn b .settings .level) (equal : settingsIn a .settings ≡ withLevel level (settingsIn b .settings))
     (small large : Started) (begun-small : Begun a small) (begun-large : Begun b large) (two : 2 ≤ level) where
-  pub nodes-alike : (g h : List Made) → callsOf g ≡ callsOf h → Met small g → Met large h → NoEightMade h → (rate own0 own1 : ℕ)
+  pub nodes-alike : (g h : List Made) → madeOf g ≡ madeOf h → Met small g → Met large h → NoEightMade h → (rate own0 own1 : ℕ)
       → SameFree (stateOf (nodeAfter small g)) (stateOf (nodeAfter large h)) rate own0 own1
-  unfolding startOf
+  unfolding startOf callsOf
   nodes-alike g h same met-small met-large n rate own0 own1 =
       rw (
         state-after a small begun-small g met-small,

@@ -13,7 +13,7 @@ use Rattle.blocks.specs.declared.writing.Written.{Written}
 use Rattle.blocks.specs.Writing.{Wrote}
 use Rattle.blocks.proofs.RoundTrip.{refusal-leaves}
 use Rattle.controller.specs.State.{State, started}
-use Rattle.controller.specs.Record.{refusal, outcome}
+use Rattle.controller.specs.Record.{refusal, outcomes}
 use Rattle.controller.specs.Node.{Node, Started, Answer, choiceOf, stateOf, nodeOf, startedWith}
 use Rattle.controller.specs.Kept.{Kept}
 use Rattle.controller.specs.Promise.{Begun, Recorded}
@@ -25,29 +25,29 @@ use Rattle.promises.proofs.demand1.Starting.{taken0, is-zero, start-agr
 
 -- "a refusal changes nothing in the controller and writes no byte in the caller's buffer".
 pub refusal-changes-nothing : (n : Node) (b old new : List ℕ) (r : Answer) → Kept n → Recorded n b old new r → refusal (r .result) ≡ true
-    → (r .node ≡ n) × ((new ≡ old) × (r .wrote ≡ false))
+    → (r .node ≡ n) × ((new ≡ old) × (r .reports ≡ 0))
 refusal-changes-nothing n b old new r k h refused =
     let same = answer-refused h k refused in
-    (ap (λ (x : Answer). x .node) same, (buffer-refused h k refused, ap (λ (x : Answer). x .wrote) same))
+    (ap (λ (x : Answer). x .node) same, (buffer-refused h k refused, ap (λ (x : Answer). x .reports) same))
 
 -- "by a number from the rules": every result is one of the list, whatever the node and the bytes ..
 pub results-listed : (n : Node) (b old new : List ℕ) (r : Answer) → Recorded n b old new r → among (r .result) numbers ≡ true
 results-listed n b old new r h = rw (recorded-result h) (result-listed (stateOf n) b (length old))
 
 -- .. a refusal's is that of the first test that applies ..
-pub refused-is-first : (s : State) (b : List ℕ) (room : ℕ) → refusal (outcome s b room .result) ≡ true
-    → FirstApplies tests s b room (outcome s b room .result)
+pub refused-is-first : (s : State) (b : List ℕ) (room : ℕ) → refusal (outcomes s b room .result) ≡ true
+    → FirstApplies tests s b room (outcomes s b room .result)
 refused-is-first s b room h =
-    other-first taken tests s b room (outcome s b room .result) (agrees s b room) (refused-not-taken (outcome s b room .result) h)
+    other-first taken tests s b room (outcomes s b room .result) (agrees s b room) (refused-not-taken (outcomes s b room .result) h)
 
 -- .. the first test that applies gives its number, 21 of a block too ..
-pub first-is-given : (s : State) (b : List ℕ) (room n : ℕ) → FirstApplies tests s b room n → outcome s b room .result ≡ n
-first-is-given s b room = first-given taken tests s b room (outcome s b room .result) (agrees s b room)
+pub first-is-given : (s : State) (b : List ℕ) (room n : ℕ) → FirstApplies tests s b room n → outcomes s b room .result ≡ n
+first-is-given s b room = first-given taken tests s b room (outcomes s b room .result) (agrees s b room)
 
 -- .. and where none applies there is no refusal.
-pub none-applies : (s : State) (b : List ℕ) (room : ℕ) → NoneApplies tests s b room → refusal (outcome s b room .result) ≡ false
+pub none-applies : (s : State) (b : List ℕ) (room : ℕ) → NoneApplies tests s b room → refusal (outcomes s b room .result) ≡ false
 none-applies s b room h =
-    not-refused (outcome s b room .result) (none-among taken tests s b room (outcome s b room .result) (agrees s b room) h)
+    not-refused (outcomes s b room .result) (none-among taken tests s b room (outcomes s b room .result) (agrees s b room) h)
 
 -- The same of the answer of a call.
 pub recorded-refused-is-first : (n : Node) (b old new : List ℕ) (r : Answer) → Recorded n b old new r → refusal (r .result) ≡ true

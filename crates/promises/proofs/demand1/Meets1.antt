@@ -1,6 +1,5 @@
 -- What demand 1 supposes does happen: closed examples for each supposition, by computation. Assumes nothing.
 use mathlib.Core.Path.{_≡_, refl}
-use mathlib.Core.Bool.{false}
 use mathlib.Core.List.{[], _∷_, _++_, map}
 use Rattle.wire.specs.Fields.{addressAt}
 use Rattle.wire.specs.Head.{broken, headOf}
@@ -44,7 +43,7 @@ pub joined-kept : Kept joined
 unfolding joined areBytes
 joined-kept = answer-kept fresh (report 0 255 2 1 0 0) 7 (are-bytes (report 0 255 2 1 0 0) refl) fresh-kept
 
-pub recorded-met : Recorded joined (attributes 2 (0 ∷ [])) buffer buffer (record { node = joined; result = 8; wrote = false })
+pub recorded-met : Recorded joined (attributes 2 (0 ∷ [])) buffer buffer (record { node = joined; result = 8; reports = 0 })
 unfolding joined cut known sound over
 recorded-met = record { is = refl; shows = refl; content = refl; kept = joined-kept }
 

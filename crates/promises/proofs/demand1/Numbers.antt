@@ -1,5 +1,5 @@
 -- The result of a record agrees with the tests in their order, kind by kind. Assumes nothing.
-use Prim.Native.Nat.{ℕ, zero, suc, _-_, _<_}
+use Prim.Native.Nat.{ℕ, zero, suc, _-_, _*_, _<_}
 use mathlib.Core.Path.{_≡_, refl, sym, _∙_}
 use mathlib.Core.Bool.{Bool, true, false, not, cond, true≢false}
 use mathlib.Core.List.{List, [], _∷_}
@@ -20,10 +20,10 @@ use Rattle.stations.specs.Stations.{capacity, displaced, renewed, inserted, pre
 use Rattle.stations.specs.Hearing.{Placed, distance, heardAgain, placedKnown, placedNew, placedBy, placed}
 use Rattle.controller.specs.declared.reading.Reading.{Reading}
 use Rattle.controller.specs.declared.reading.Reading.the-variants.{Refused, Tick, Link, Keepalive, Operator, Heard, Block}
-use Rattle.controller.specs.Reading.{linkFits, keepaliveFits, operatorFits, reportFits, reportIn, blockFits, blockIn, blockOf, reading}
+use Rattle.controller.specs.Reading.{linkFits, keepaliveFits, operatorFits, reportFits, reportIn, blockFits, blockIn, blockOf, countIn, ticksFit, ticksIn, reading}
 use Rattle.controller.specs.State.{State, spanOf}
 use Rattle.controller.specs.Handling.{acted, gives, hearing, taking, learning}
-use Rattle.controller.specs.Record.{refusal, outcome}
+use Rattle.controller.specs.Record.{refusal, outcomes}
 use Rattle.promises.specs.Refusals.{numbers, isMalformed, tests}
 use Rattle.promises.proofs.demand1.Order.{of-all, firstOf, Agrees, all-results}
 use Rattle.promises.proofs.demand1.Results.{given, result-is}
@@ -127,17 +127,24 @@ module _ (s : State) (block : List ℕ) where
   unfolding blockIn
   block-agrees own body = fits (blockFits body) _ _ (test (eqb (addressAt body 1) own) 5 _ _ (learnt-agrees (byteAt body 0) (addressAt body 1)))
 
+  -- Kind 7: the test 4, then that of the room.
+  ticks-agrees : (body : List ℕ) (room : ℕ)
+      → Agrees taken (cond (not (ticksFit body)) (some 4) (cond (ltb room (7 * countIn body)) (some 1) none)) (given s block (ticksIn body room))
+  unfolding ticksIn given among
+  ticks-agrees body room = fits (ticksFit body) _ _ (test (ltb room (7 * countIn body)) 1 none Tick refl)
+
 -- The kinds: 0, those of the call, and those above.
-by-kind : {P : Type 0} (k : ℕ) → (k ≡ 0 → P) → (k ≡ 1 → P) → (k ≡ 2 → P) → (k ≡ 3 → P) → (k ≡ 4 → P) → (k ≡ 5 → P) → (k ≡ 6 → P)
-    → (6 < k → P) → P
-by-kind zero p0 p1 p2 p3 p4 p5 p6 more = p0 refl
-by-kind (suc zero) p0 p1 p2 p3 p4 p5 p6 more = p1 refl
-by-kind (suc (suc zero)) p0 p1 p2 p3 p4 p5 p6 more = p2 refl
-by-kind (suc (suc (suc zero))) p0 p1 p2 p3 p4 p5 p6 more = p3 refl
-by-kind (suc (suc (suc (suc zero)))) p0 p1 p2 p3 p4 p5 p6 more = p4 refl
-by-kind (suc (suc (suc (suc (suc zero))))) p0 p1 p2 p3 p4 p5 p6 more = p5 refl
-by-kind (suc (suc (suc (suc (suc (suc zero)))))) p0 p1 p2 p3 p4 p5 p6 more = p6 refl
-by-kind (suc (suc (suc (suc (suc (suc (suc k))))))) p0 p1 p2 p3 p4 p5 p6 more = more (omega arith)
+by-kind : {P : Type 0} (k : ℕ) → (k ≡ 0 → P) → (k ≡ 1 → P) → (k ≡ 2 → P) → (k ≡ 3 → P) → (k ≡ 4 → P) → (k ≡ 5 → P) → (k ≡ 6 → P) → (k ≡ 7 → P)
+    → (7 < k → P) → P
+by-kind zero p0 p1 p2 p3 p4 p5 p6 p7 more = p0 refl
+by-kind (suc zero) p0 p1 p2 p3 p4 p5 p6 p7 more = p1 refl
+by-kind (suc (suc zero)) p0 p1 p2 p3 p4 p5 p6 p7 more = p2 refl
+by-kind (suc (suc (suc zero))) p0 p1 p2 p3 p4 p5 p6 p7 more = p3 refl
+by-kind (suc (suc (suc (suc zero)))) p0 p1 p2 p3 p4 p5 p6 p7 more = p4 refl
+by-kind (suc (suc (suc (suc (suc zero))))) p0 p1 p2 p3 p4 p5 p6 p7 more = p5 refl
+by-kind (suc (suc (suc (suc (suc (suc zero)))))) p0 p1 p2 p3 p4 p5 p6 p7 more = p6 refl
+by-kind (suc (suc (suc (suc (suc (suc (suc zero))))))) p0 p1 p2 p3 p4 p5 p6 p7 more = p7 refl
+by-kind (suc (suc (suc (suc (suc (suc (suc (suc k)))))))) p0 p1 p2 p3 p4 p5 p6 p7 more = more (omega arith)
 
 module _ (s : State) (b : List ℕ) (room : ℕ) where
   reading-agrees : Agrees taken (firstOf s b room tests) (given s (blockOf b) (reading (s .choice .address) b room))
@@ -156,27 +163,29 @@ module _ (s : State) (b : List ℕ) (room : ℕ) where
       (λ e. rw e (fits s block (operatorFits body) none (Operator (byteAt body 0) (byteAt body 1)) refl))
       (λ e. rw e (report-agrees s block own body))
       (λ e. rw e (block-agrees s block own body))
+      (λ e. rw e (ticks-agrees s block body room))
       (λ h.
       rw (
         le-leb 1 (kindOf b) (omega arith),
-        lt-leb (kindOf b) 6 h,
+        lt-leb (kindOf b) 7 h,
         ne-eqb (kindOf b) 1 (omega arith),
         ne-eqb (kindOf b) 2 (omega arith),
         ne-eqb (kindOf b) 3 (omega arith),
         ne-eqb (kindOf b) 4 (omega arith),
         ne-eqb (kindOf b) 5 (omega arith),
         ne-eqb (kindOf b) 6 (omega arith),
+        ne-eqb (kindOf b) 7 (omega arith),
       ))))
 
-  pub agrees : Agrees taken (firstOf s b room tests) (outcome s b room .result)
+  pub agrees : Agrees taken (firstOf s b room tests) (outcomes s b room .result)
   agrees = rw (result-is s b room) reading-agrees
 
   -- So the result is a number of the tests, or of a record that is not refused: all of them are listed.
-  pub result-listed : among (outcome s b room .result) numbers ≡ true
+  pub result-listed : among (outcomes s b room .result) numbers ≡ true
   unfolding tests among
   result-listed =
-      all-results taken tests s b room (outcome s b room .result) agrees (λ n. among n numbers ≡ true)
-      (refl, (refl, (refl, (refl, (refl, (refl, (refl, (refl, (refl, tt)))))))))
+      all-results taken tests s b room (outcomes s b room .result) agrees (λ n. among n numbers ≡ true)
+      (refl, (refl, (refl, (refl, (refl, (refl, (refl, (refl, (refl, (refl, tt))))))))))
       (refl, (refl, (refl, (refl, (refl, (refl, tt))))))
 
 -- No number of a record that is not refused is a refusal.

@@ -7,16 +7,16 @@ use Rattle.wire.specs.Fields.{Bytes}
 use Rattle.controller.specs.Node.{Started, stateOf, startedWith}
 use Rattle.controller.specs.State.{State}
 use Rattle.controller.specs.Record.{Outcome, refuses}
-use Rattle.promises.specs.History.{Call, after, answered, startOf, AllBytes, Made, callsOf, nodeAfter, Met, AnsweredAs}
+use Rattle.promises.specs.History.{Call, afterAll, answeredAll, startOf, AllBytes, Made, madeOf, nodeAfter, Met, AnsweredAs}
 use Rattle.promises.specs.Possible.{Handed, AllHanded, made}
 use Rattle.promises.specs.Drilled.{callsFor, Drilled}
-use Rattle.promises.proofs.demand2.Coming.{state-after, answered-as}
+use Rattle.promises.proofs.demand2.Coming.{state-made, answered-as}
 use Rattle.promises.proofs.demand2.Possible.{begins, made-met}
 
 -- What the latest call of a history is answered.
 abbrev pub lastOf : State → List Call → Outcome
 lastOf s [] = refuses 0 s
-lastOf s (c ∷ h) = answered s h c
+lastOf s (c ∷ h) = answeredAll s h c
 
 -- Its room, and the calls before it.
 abbrev lastRoom : List Call → ℕ
@@ -28,22 +28,22 @@ before [] = []
 before (c ∷ h) = h
 
 module _ {start : List ℕ} {l : List (List ℕ)} {st : Started} where
-  pub drill-state : {h : List Made} → Drilled start l st h → stateOf (nodeAfter st h) ≡ after (startOf start) (callsFor l)
-  drill-state {h} d = state-after start st (d .begun) h (d .met) ∙ ap (after (startOf start)) (d .calls)
+  pub drill-state : {h : List Made} → Drilled start l st h → stateOf (nodeAfter st h) ≡ afterAll (startOf start) (callsFor l)
+  drill-state {h} d = state-made start st (d .begun) h (d .met) ∙ ap (afterAll (startOf start)) (d .calls)
 
   module _ {m : Made} {h : List Made} (d : Drilled start l st (m ∷ h)) where
     pub drill-answer : AnsweredAs m (lastOf (startOf start) (callsFor l))
-    unfolding callsOf
+    unfolding madeOf
     drill-answer = subst (λ (c : List Call). AnsweredAs m (lastOf (startOf start) c)) (d .calls) (answered-as start st (d .begun) h m (d .met))
 
     pub drill-room : length (m .old) ≡ lastRoom (callsFor l)
-    unfolding callsOf
+    unfolding madeOf
     drill-room = ap lastRoom (d .calls)
 
     -- The node before the last call.
-    pub drill-before : stateOf (nodeAfter st h) ≡ after (startOf start) (before (callsFor l))
-    unfolding callsOf Met
-    drill-before = state-after start st (d .begun) h (d .met .1) ∙ ap (λ (c : List Call). after (startOf start) (before c)) (d .calls)
+    pub drill-before : stateOf (nodeAfter st h) ≡ afterAll (startOf start) (before (callsFor l))
+    unfolding madeOf Met
+    drill-before = state-made start st (d .begun) h (d .met .1) ∙ ap (λ (c : List Call). afterAll (startOf start) (before c)) (d .calls)
 
 -- Records handed over with buffers of seven bytes.
 abbrev handed : List ℕ → Handed
@@ -52,8 +52,8 @@ handed b = record { bytes = b; old = replicate 7 0 }
 abbrev called : List ℕ → Call
 called b = record { bytes = b; room = 7 }
 
-handed-calls : (st : Started) (l : List (List ℕ)) → callsOf (made st (map handed l)) ≡ map called l
-unfolding made callsOf
+handed-calls : (st : Started) (l : List (List ℕ)) → madeOf (made st (map handed l)) ≡ map called l
+unfolding made madeOf
 handed-calls st [] = refl
 handed-calls st (b ∷ l) = ap (λ (h : List Call). called b ∷ h) (handed-calls st l)
 

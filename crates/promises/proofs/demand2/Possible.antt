@@ -11,7 +11,7 @@ use Rattle.wire.specs.Fields.{Bytes}
 use Rattle.controller.specs.Node.{Started, startedWith}
 use Rattle.controller.specs.Promise.{Begun}
 use Rattle.controller.proofs.Nodes.{answer-shows, answer-kept, started-with-shows, started-with-kept}
-use Rattle.promises.specs.History.{Call, AllBytes, callsOf, Met, nodeAfter}
+use Rattle.promises.specs.History.{Call, AllBytes, madeOf, Met, nodeAfter}
 use Rattle.promises.specs.Possible.{Handed, AllHanded, made, areBytes, allBytes}
 
 pub begins : (b : List ℕ) → Bytes b → Begun b (startedWith b)
@@ -31,8 +31,8 @@ made-met st (c ∷ h) bytes = (
 )
 
 -- Two nodes that are handed the same have been called the same.
-pub calls-made : (st other : Started) (h : List Handed) → callsOf (made st h) ≡ callsOf (made other h)
-unfolding made callsOf
+pub calls-made : (st other : Started) (h : List Handed) → madeOf (made st h) ≡ madeOf (made other h)
+unfolding made madeOf
 calls-made st other [] = refl
 calls-made st other (c ∷ h) = ap (λ (l : List Call). record { bytes = c .bytes; room = length (c .old) } ∷ l) (calls-made st other h)
 

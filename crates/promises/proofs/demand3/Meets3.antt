@@ -18,7 +18,7 @@ use Rattle.stations.specs.Rows.{image, tableIn}
 use Rattle.controller.specs.Own.{ownOf}
 use Rattle.controller.specs.Promise.{Begun}
 use Rattle.controller.specs.Node.{startedWith, asked}
-use Rattle.promises.specs.History.{after, answered, startOf, callsOf, Met}
+use Rattle.promises.specs.History.{after, answered, startOf, madeOf, Met}
 use Rattle.promises.specs.Levels.{NoEight, latest, noBlocks, saysBehind, withLevel, NoEightMade}
 use Rattle.promises.specs.Possible.{AllHanded, made, areBytes}
 use Rattle.promises.specs.LevelDrills.{call, small, large, typeTwo, joined, asides, typeOne, takes, returns, handed, smallNode, largeNode}
@@ -79,7 +79,7 @@ bytes-handed = (are-bytes (attributes 2 typeTwo) refl, (are-bytes (report 0 255 
 pub met-both : Met smallNode (made smallNode handed) × Met largeNode (made largeNode handed)
 met-both = (made-met smallNode handed bytes-handed, made-met largeNode handed bytes-handed)
 
-pub same-calls : callsOf (made smallNode handed) ≡ callsOf (made largeNode handed)
+pub same-calls : madeOf (made smallNode handed) ≡ madeOf (made largeNode handed)
 same-calls = calls-made smallNode largeNode handed
 
 pub none-eight : NoEightMade (made largeNode handed)

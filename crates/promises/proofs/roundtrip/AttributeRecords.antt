@@ -38,8 +38,8 @@ module _ (span a : ℕ) (block : List ℕ) where
   attributes-read short own room side even foreign enough =
       let whole : broken card ≡ false = sym (right-length card (omega arith) (omega arith)) ∙ le-ltb 1033 (lengthOf card) (omega arith) in
       rw (le-ltb room 7 enough)
-      (sym (read-whole own card whole)
-      ∙ sym (kind-block own (bodyOf card) 6 refl)
+      (sym (read-whole own card room whole)
+      ∙ sym (kind-block own (bodyOf card) room 6 refl)
       ∙ sym (block-said own (bodyOf card) (omega arith) (omega arith) side (ap oddFirst address-back ∙ even) (λ e. foreign (sym address-back ∙ e)))
       ∙ ap (λ (x : ℕ). Block span x) address-back)
 

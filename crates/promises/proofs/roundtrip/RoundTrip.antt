@@ -27,7 +27,7 @@ use Rattle.controller.specs.declared.reading.Reading.{Reading}
 use Rattle.controller.specs.declared.reading.Reading.the-variants.{Block}
 use Rattle.controller.specs.State.{State, spanOf}
 use Rattle.controller.specs.Handling.{gives}
-use Rattle.controller.specs.Record.{outcomeOf, outcome}
+use Rattle.controller.specs.Record.{outcomeOf, outcome, outcomes}
 use Rattle.controller.specs.Kept.{StateKept, Kept}
 use Rattle.controller.specs.Promise.{Recorded}
 use Rattle.promises.specs.History.{after, startOf}
@@ -37,29 +37,32 @@ use Rattle.promises.specs.Possible.{areBytes, allBytes}
 use Rattle.promises.specs.Drilled.{callsFor}
 use Rattle.promises.specs.Written.{attributeRecord, values, joined}
 use Rattle.promises.proofs.demand2.Possible.{are-bytes, all-bytes}
+use Rattle.controller.proofs.Manys.{one-event}
 use Rattle.promises.proofs.demand2.AfterKept.{after-kept}
+use Rattle.promises.proofs.demand2.Spelling.{outcomes-one}
 use Rattle.promises.proofs.roundtrip.Quiet.{block-closes-nothing}
 use Rattle.promises.proofs.roundtrip.AttributeRecords.{attributes-read, record-bytes, written-bytes}
 use Rattle.promises.proofs.roundtrip.Taking.{carried, of-present, given-back, learning-values}
 
 module _ (s : State) (k : StateKept s) (span a room : ℕ) (side : span ≤ 1) (there : present a (s .stations) ≡ true) (enough : 7 ≤ room) where
   -- The record is read: a station of the table has an even address that is not the own one.
-  block-read : (b : List ℕ) → length b ≤ 1024 → outcome s (attributeRecord span a b) room ≡ outcomeOf (Block span a) b s
+  block-read : (b : List ℕ) → length b ≤ 1024 → outcomes s (attributeRecord span a b) room ≡ outcomeOf (Block span a) b s
   unfolding outcome
   block-read b short =
       let (x, at, kept) =
       of-present (StationKept (s .choice .address) (s .choice .ticks .forget) (s .choice .known)) a (s .stations) (k .stations .each) there in
-      ap (λ (r : Reading). outcomeOf r b s)
+      outcomes-one (record { bytes = attributeRecord span a b; room = room }) s (one-event (attributeRecord span a b) room (λ e. omega arith))
+      ∙ ap (λ (r : Reading). outcomeOf r b s)
       (attributes-read span a b short (s .choice .address) room side (ap oddFirst (sym at) ∙ kept .even) (λ e. kept .foreign (at ∙ e)) enough)
 
   -- A block that is read as values is taken, and the station shows them.
   values-heard : (w0 w1 b0 b1 : ℕ) (b : List ℕ) → length b ≤ 1024 → down (s .choice .ticks) (spanOf span (s .spans)) ≡ false
       → block (meaning (s .choice .known) b) ≡ Values w0 w1 b0 b1
-      → (outcome s (attributeRecord span a b) room .result ≡ 0) × (asked (outcome s (attributeRecord span a b) room .state) a ≡ values w0 w1 b0 b1)
+      → (outcomes s (attributeRecord span a b) room .result ≡ 0) × (asked (outcomes s (attributeRecord span a b) room .state) a ≡ values w0 w1 b0 b1)
   unfolding asked
   values-heard w0 w1 b0 b1 b short up reads =
       let m : Meaning = meaning (s .choice .known) b in
-      let e : outcome s (attributeRecord span a b) room ≡ withStations s (gives 0 (given a (carried w0 w1 b0 b1) (s .stations))) =
+      let e : outcomes s (attributeRecord span a b) room ≡ withStations s (gives 0 (given a (carried w0 w1 b0 b1) (s .stations))) =
       block-read b short ∙ block-closes-nothing s k span a b
       ∙ ap (withStations s) (learning-values w0 w1 b0 b1 (s .choice .ticks) span a m (s .spans) (s .stations) up there reads) in
       rw (e, given-back a (carried w0 w1 b0 b1) (s .stations) there) (refl, refl)
@@ -95,8 +98,8 @@ level-is-written c = go (levelInRange (c .level))
 pub heard-back : (s : State) → StateKept s → (level : ℕ) → s .choice .known ≡ knows level → (w0 w1 b0 b1 : ℕ)
     → unfit level w0 w1 b0 b1 ≡ false → (span a room : ℕ) → span ≤ 1 → down (s .choice .ticks) (spanOf span (s .spans)) ≡ false
     → present a (s .stations) ≡ true → 7 ≤ room
-    → (outcome s (attributeRecord span a (bytesAt level w0 w1 b0 b1)) room .result ≡ 0)
-    × (asked (outcome s (attributeRecord span a (bytesAt level w0 w1 b0 b1)) room .state) a ≡ values w0 w1 b0 b1)
+    → (outcomes s (attributeRecord span a (bytesAt level w0 w1 b0 b1)) room .result ≡ 0)
+    × (asked (outcomes s (attributeRecord span a (bytesAt level w0 w1 b0 b1)) room .state) a ≡ values w0 w1 b0 b1)
 unfolding blockAt
 heard-back s k level same w0 w1 b0 b1 fits span a room side up there enough =
     values-heard s k span a room side there enough w0 w1 b0 b1 (bytesAt level w0 w1 b0 b1) (omega (arith, few-bytes level w0 w1 b0 b1)) up
@@ -143,12 +146,12 @@ joined-kept level bytes =
     after-kept (choiceOf c) (ticks-kept c (settings-kept (settings level 0) (are-bytes (settings level 0) bytes) .ranges))
     (callsFor (report 0 255 2 1 0 0 ∷ [])) (all-bytes (callsFor (report 0 255 2 1 0 0 ∷ [])) refl)
 
-pub level-1-back : (outcome (joined 1) (attributeRecord 0 (station 2) (bytesAt 1 3 5 0 0)) 7 .result ≡ 0)
-    × (asked (outcome (joined 1) (attributeRecord 0 (station 2) (bytesAt 1 3 5 0 0)) 7 .state) (station 2) ≡ values 3 5 0 0)
+pub level-1-back : (outcomes (joined 1) (attributeRecord 0 (station 2) (bytesAt 1 3 5 0 0)) 7 .result ≡ 0)
+    × (asked (outcomes (joined 1) (attributeRecord 0 (station 2) (bytesAt 1 3 5 0 0)) 7 .state) (station 2) ≡ values 3 5 0 0)
 unfolding areBytes after startOf settingsIn headOf broken fullIn fieldsOf inRange addressAt ticksOf
 level-1-back = heard-back (joined 1) (joined-kept 1 refl) 1 refl 3 5 0 0 refl 0 (station 2) 7 (omega arith) refl refl (omega arith)
 
-pub level-2-back : (outcome (joined 2) (attributeRecord 0 (station 2) (bytesAt 2 3 5 1000 7)) 7 .result ≡ 0)
-    × (asked (outcome (joined 2) (attributeRecord 0 (station 2) (bytesAt 2 3 5 1000 7)) 7 .state) (station 2) ≡ values 3 5 1000 7)
+pub level-2-back : (outcomes (joined 2) (attributeRecord 0 (station 2) (bytesAt 2 3 5 1000 7)) 7 .result ≡ 0)
+    × (asked (outcomes (joined 2) (attributeRecord 0 (station 2) (bytesAt 2 3 5 1000 7)) 7 .state) (station 2) ≡ values 3 5 1000 7)
 unfolding areBytes after startOf settingsIn headOf broken fullIn fieldsOf inRange addressAt ticksOf
 level-2-back = heard-back (joined 2) (joined-kept 2 refl) 2 refl 3 5 1000 7 refl 0 (station 2) 7 (omega arith) refl refl (omega arith)

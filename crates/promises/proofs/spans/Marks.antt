@@ -2,7 +2,7 @@
 -- changes nothing at all. Assumes nothing.
 use Prim.Native.Nat.{ℕ, _≤_}
 use mathlib.Core.Path.{_≡_, refl, sym, _∙_, ap}
-use mathlib.Core.Bool.{Bool, true, false, not, cond}
+use mathlib.Core.Bool.{Bool, true, false, not, cond, true≢false}
 use mathlib.Core.List.{List, []}
 use mathlib.Core.Option.{Option, none, some}
 use native.Mathlib.Omega.{arith}
@@ -21,18 +21,20 @@ use Rattle.stations.specs.Hearing.{Placed, distance, placedKnown, placedNew, pl
 use Rattle.stations.proofs.Lists.{chosen}
 use Rattle.controller.specs.declared.reading.Reading.{Reading}
 use Rattle.controller.specs.declared.reading.Reading.the-variants.{Refused, Tick, Link, Keepalive, Operator, Heard, Block}
-use Rattle.controller.specs.Reading.{blockOf, reading}
+use Rattle.controller.specs.Reading.{blockOf, reading, manyTicks}
 use Rattle.controller.specs.State.{Spans, State, spanOf}
 use Rattle.controller.specs.Handling.{cabled, acted, gives, hearing, taking, learning, judged}
 use Rattle.controller.specs.Closing.{isTick}
-use Rattle.controller.specs.Record.{Outcome, refuses, unlessRefused, outcomeOf, outcome}
+use Rattle.controller.specs.Record.{Outcome, refuses, unlessRefused, outcomeOf, outcome, outcomes}
 use Rattle.controller.specs.Node.{Node, Answer, settingsOf, stateOf, answerOf}
 use Rattle.controller.specs.Kept.{StateKept, Kept}
 use Rattle.controller.specs.Promise.{Recorded}
 use Rattle.controller.proofs.Nodes.{refused-same}
-use Rattle.controller.proofs.Records.{over-none}
+use Rattle.controller.proofs.Reports.{over-none}
+use Rattle.controller.proofs.Manys.{other-event}
 use Rattle.promises.specs.Marks.{markedOn, markAfter, HandlerLeaves, OnlyMark}
-use Rattle.promises.proofs.demand1.Results.{given, result-of, recorded-result}
+use Rattle.promises.proofs.demand1.Results.{given, result-of, result-is, recorded-result}
+use Rattle.promises.proofs.demand2.Spelling.{outcomes-one}
 use Rattle.promises.specs.Quiet.{withStations}
 use Rattle.promises.proofs.roundtrip.Quiet.{block-closes-nothing}
 use Rattle.promises.proofs.spans.Readings.{Sided, sided}
@@ -135,17 +137,21 @@ module _ (s : State) (b : List ℕ) where
 
 -- Of every record, from its bytes.
 module _ (s : State) (b : List ℕ) (room : ℕ) where
-  pub only-mark : 20 ≤ outcome s b room .result → outcome s b room .result ≤ 23
-      → OnlyMark s (blockOf b) (outcome s b room .result) (reading (s .choice .address) b room)
-  unfolding outcome
-  only-mark = only-mark-of s (blockOf b) (reading (s .choice .address) b room) (sided (s .choice .address) b room)
+  pub only-mark : 20 ≤ outcomes s b room .result → outcomes s b room .result ≤ 23
+      → OnlyMark s (blockOf b) (outcomes s b room .result) (reading (s .choice .address) b room)
+  only-mark =
+      let r : Reading = reading (s .choice .address) b room in
+      let same : outcomes s b room .result ≡ outcomeOf r (blockOf b) s .result = result-is s b room ∙ sym (result-of s (blockOf b) r) in
+      rw same (only-mark-of s (blockOf b) r (sided (s .choice .address) b room))
 
   -- "for kind 6 result 21 (span down, nothing else done)": not even the closing steps find anything, in a state that is kept.
-  pub block-down : StateKept s → (n a : ℕ) → reading (s .choice .address) b room ≡ Block n a → outcome s b room .result ≡ 21
-      → outcome s b room ≡ record { result = 21; state = s; report = [] }
+  pub block-down : StateKept s → (n a : ℕ) → reading (s .choice .address) b room ≡ Block n a → outcomes s b room .result ≡ 21
+      → outcomes s b room ≡ record { result = 21; state = s; report = [] }
   unfolding outcome judged
   block-down k n a is result =
-      let e : outcome s b room ≡ outcomeOf (Block n a) (blockOf b) s = ap (λ (r : Reading). outcomeOf r (blockOf b) s) is in
+      let single : manyTicks b room ≡ false = other-event b room (s .choice .address) (λ t. true≢false (sym (ap isTick t) ∙ ap isTick is)) in
+      let e : outcomes s b room ≡ outcomeOf (Block n a) (blockOf b) s =
+      outcomes-one (record { bytes = b; room = room }) s single ∙ ap (λ (r : Reading). outcomeOf r (blockOf b) s) is in
       let down : outcomeOf (Block n a) (blockOf b) s .result ≡ 21 = ap (λ (o : Outcome). o .result) (sym e) ∙ result in
       let same = block-leaves s (blockOf b) n a (omega (arith, down)) (omega (arith, down)) .1 .stations in
       e ∙ block-closes-nothing s k n a (blockOf b) ∙ ap (withStations s) same
@@ -155,12 +161,12 @@ module _ {n : Node} {b old new : List ℕ} {r : Answer} (h : Recorded n b old ne
   pub recorded-only-mark : 20 ≤ r .result → r .result ≤ 23
       → OnlyMark (stateOf n) (blockOf b) (r .result) (reading (settingsOf n .address) b (length old))
   recorded-only-mark high low =
-      let is : r .result ≡ outcome (stateOf n) b (length old) .result = recorded-result h in
+      let is : r .result ≡ outcomes (stateOf n) b (length old) .result = recorded-result h in
       rw is (only-mark (stateOf n) b (length old) (omega arith) (omega arith))
 
   pub recorded-block-down : Kept n → (m a : ℕ) → reading (settingsOf n .address) b (length old) ≡ Block m a → r .result ≡ 21
-      → (r ≡ record { node = n; result = 21; wrote = false }) × (new ≡ old)
+      → (r ≡ record { node = n; result = 21; reports = 0 }) × (new ≡ old)
   recorded-block-down k m a is result =
-      let same : outcome (stateOf n) b (length old) ≡ refuses 21 (stateOf n) =
+      let same : outcomes (stateOf n) b (length old) ≡ refuses 21 (stateOf n) =
       block-down (stateOf n) b (length old) (k .state) m a is (sym (recorded-result h) ∙ result) in
       (h .is ∙ ap (answerOf n) same ∙ refused-same n 21 k, h .content ∙ ap (λ (o : Outcome). over (o .report) old) same ∙ sym (over-none old))

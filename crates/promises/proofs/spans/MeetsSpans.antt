@@ -17,7 +17,7 @@ use Rattle.controller.specs.declared.reading.Reading.the-variants.{Tick, Link, 
 use Rattle.controller.specs.Reading.{blockOf, reading}
 use Rattle.controller.specs.State.{Choice, State, started}
 use Rattle.controller.specs.Node.{choiceOf, westRequest}
-use Rattle.promises.specs.History.{Call, after, answered, Always, AllBytes, startOf}
+use Rattle.promises.specs.History.{Call, after, afterAll, answeredAll, Always, AllBytes, startOf}
 use Rattle.promises.specs.Spans.{readAs, someTaken, ticksTaken, ticksQuiet, linkTaken, spanAfter, automaticOn, Unrequested}
 use Rattle.promises.specs.Marks.{OnlyMark}
 use Rattle.promises.specs.Drilled.{callsFor}
@@ -234,7 +234,7 @@ abbrev plain : State
 plain = started (node 0 0)
 
 abbrev resultAfter : List (List ℕ) → List ℕ → ℕ
-resultAfter l b = answered plain (callsFor l) (call b) .result
+resultAfter l b = answeredAll plain (callsFor l) (call b) .result
 
 -- So many stations on ringlet 0, the first at hop 1; a new one on ringlet 1 then has no place.
 unfoldable pub crowd : ℕ → List (List ℕ)
@@ -246,7 +246,7 @@ pub twenty-to-twenty-three : (resultAfter [] (heardOn 0 1 255 1) ≡ 20)
     × (resultAfter (heardOn 0 0 255 200 ∷ []) (heardOn 0 0 255 73) ≡ 22)
     × (resultAfter (crowd 63) (report 1 255 65 1 0 0) ≡ 23)
     × (resultAfter (heardOn 0 1 255 1 ∷ []) (attributes 2 []) ≡ 21)
-unfolding started after addressAt crowd
+unfolding started afterAll addressAt crowd
 twenty-to-twenty-three = (refl, refl, refl, refl, refl)
 
 -- The mark is set at hop 1, not at hop 2; and what only-mark says of the first.
@@ -255,6 +255,6 @@ unfolding started after addressAt
 marks = (refl, refl)
 
 pub marks-alone : OnlyMark plain (blockOf (heardOn 0 1 255 1)) (resultAfter [] (heardOn 0 1 255 1)) (readAs (station 1) (call (heardOn 0 1 255 1)))
-unfolding started after
+unfolding started afterAll
 marks-alone =
     only-mark plain (heardOn 0 1 255 1) 7 (omega (arith, twenty-to-twenty-three .0)) (omega (arith, twenty-to-twenty-three .0))

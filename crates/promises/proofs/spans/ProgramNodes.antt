@@ -1,38 +1,53 @@
 -- The same of nodes of the program: b are settings bytes, st what start answered to them; calls stand latest first, and each met its contract. Assumes nothing.
-use Prim.Native.Nat.{ℕ, _-_, _<_, _≤_}
+use Prim.Native.Nat.{ℕ, zero, suc, _-_, _<_, _≤_}
 use mathlib.Core.Path.{_≡_, refl, sym, _∙_, ap, subst}
 use mathlib.Core.Bool.{Bool, true, false, _||_, true≢false, false≢true}
-use mathlib.Core.List.{List, [], _∷_, _++_}
+use mathlib.Core.List.{List, [], _∷_, _++_, append-assoc}
 use native.Mathlib.Omega.{arith}
+use lib.ListN.{replicate}
 use lib.Dec.{eqb, ltb}
 use borrow.Author.Tests.{eqb-true, ltb-false, lt-ltb, le-ltb}
+use Rattle.wire.specs.Head.{bodyOf}
 use Rattle.settings.specs.Reading.{settingsIn}
 use Rattle.spans.specs.declared.span.Span.{Span}
 use Rattle.spans.specs.Codes.{good, failed, FS, SF, SD, IDLE, none, listed, higher}
 use Rattle.spans.specs.Kept.{SpanFair}
 use Rattle.spans.specs.HoldOff.{HeldOff, LinkDecides}
+use Rattle.controller.specs.declared.reading.Reading.{Reading}
 use Rattle.controller.specs.declared.reading.Reading.the-variants.{Tick, Link, Operator}
+use Rattle.controller.specs.Reading.{countIn}
+use Rattle.controller.specs.Closing.{isTick}
 use Rattle.controller.specs.Node.{Started, choiceOf, stateOf}
 use Rattle.controller.specs.State.{Choice, State, spanOf, started}
 use Rattle.controller.specs.Kept.{StateKept}
 use Rattle.controller.specs.Promise.{Begun}
-use Rattle.promises.specs.History.{Call, after, Always, startOf, Made, callOf, callsOf, Met}
+use Rattle.promises.specs.History.{Call, after, tickWith, spelledOut, Always, startOf, Made, callOf, madeOf, callsOf, Met}
 use Rattle.promises.specs.Spans.{ownFrom, ticksFrom, seen, readAs, ticksTaken, linkTaken, operatorTaken, unasked, spanAfter, spanSeen}
 use Rattle.promises.specs.Spans.{requestOn, automaticOn, Unrequested, UnrequestedOn, Swept, SameBeneath}
 use Rattle.promises.specs.HoldOff.{asGoodTaken, statusTold}
 use Rattle.promises.proofs.demand2.AfterKept.{choice-after}
+use Rattle.promises.proofs.demand2.Spelling.{spelled-both, spelled-one, spelled-many, many-room, no-tick-one, of-call}
 use Rattle.promises.proofs.demand2.Coming.{state-after, ruled}
 use Rattle.promises.proofs.spans.HoldOff.{held-off, idle-meanwhile, failed-then}
 use Rattle.promises.proofs.spans.Swinging.{runs-on, switches, worse-requests}
 use Rattle.promises.proofs.spans.Purging.{started-swept}
 use Rattle.promises.proofs.spans.Beneath.{same-beneath, as-if-not-come}
 use Rattle.promises.proofs.spans.Running.{wtr-runs-on}
-use Rattle.promises.proofs.spans.Rising.{span-fair, never-lowered}
+use Rattle.promises.proofs.spans.Rising.{span-fair, never-lowered, one-more, ticks-never-lower}
+
+made-both : (h g : List Made) → madeOf (h ++ g) ≡ madeOf h ++ madeOf g
+unfolding madeOf
+made-both [] g = refl
+made-both (m ∷ h) g = ap (λ (l : List Call). callOf m ∷ l) (made-both h g)
 
 calls-both : (h g : List Made) → callsOf (h ++ g) ≡ callsOf h ++ callsOf g
 unfolding callsOf
-calls-both [] g = refl
-calls-both (m ∷ h) g = ap (λ (l : List Call). callOf m ∷ l) (calls-both h g)
+calls-both h g = ap spelledOut (made-both h g) ∙ spelled-both (madeOf h) (madeOf g)
+
+-- A call that is no tick is one event of its history.
+one-call : (own : ℕ) (m : Made) (g : List Made) (r : Reading) → readAs own (callOf m) ≡ r → isTick r ≡ false → callsOf (m ∷ g) ≡ callOf m ∷ callsOf g
+unfolding callsOf madeOf spelledOut
+one-call own m g r is other = ap (λ (l : List Call). l ++ callsOf g) (no-tick-one (callOf m) own r is other)
 
 met-before : (st : Started) (h g : List Made) → Met st (h ++ g) → Met st g
 unfolding Met
@@ -79,8 +94,7 @@ module _ (b : List ℕ) (st : Started) (begun : Begun b st) where
     before = state-after b st begun g met-g
 
     later : seen st (h ++ (m ∷ g)) ≡ after (startOf b) (told ++ (callOf m ∷ callsOf g))
-    unfolding callsOf
-    later = seen-is h (m ∷ g) met
+    later = seen-is h (m ∷ g) met ∙ ap (λ (l : List Call). after (startOf b) (told ++ l)) (one-call (ownFrom b) m g (Link n x) is refl)
 
     -- Hold-off runs exactly while a worse status is stored: where none runs, what is worse than the status in force differs from the stored one.
     unstored : spanSeen n st g .holdoff ≡ 0 → spanSeen n st g .force < x → x ≡ spanSeen n st g .stored → ⊥
@@ -183,10 +197,37 @@ module _ (b : List ℕ) (st : Started) (begun : Begun b st) where
   unrequested : (n : ℕ) (g h : List Made) → Met st (h ++ g) → UnrequestedOn n st g h → Unrequested n (startOf b) (callsOf g) (callsOf h)
   unrequested n g h met k = subst (λ (z : State). automaticOn n z ≡ none) (seen-is h g met) k
 
+  -- Among many ticks too: none of them takes a request away, so that none came where none is there at the end.
+  ticks-always : (n room : ℕ) → 7 ≤ room → (g h : List Call) → StateKept (after (startOf b) (h ++ g)) → (j : ℕ)
+      → Unrequested n (startOf b) g (replicate j (tickWith room) ++ h) → Always (Unrequested n (startOf b) g) h
+      → Always (Unrequested n (startOf b) g) (replicate j (tickWith room) ++ h)
+  unfolding Always
+  ticks-always n room enough g h kept zero now rest = rest
+  ticks-always n room enough g h kept (suc j) now rest =
+      let behind : (i : ℕ) → (replicate i (tickWith room) ++ h) ++ g ≡ replicate i (tickWith room) ++ (h ++ g) = λ i. append-assoc (replicate i (tickWith room)) h g in
+      let rises = one-more (startOf b) room enough (h ++ g) kept n j in
+      let end : automaticOn n (after (startOf b) (replicate (suc j) (tickWith room) ++ (h ++ g))) ≡ none =
+      ap (λ (l : List Call). automaticOn n (after (startOf b) l)) (sym (behind (suc j))) ∙ now in
+      let before : automaticOn n (after (startOf b) (replicate j (tickWith room) ++ (h ++ g))) ≡ none = omega (arith, rises, end) in
+      (now, ticks-always n room enough g h kept j (ap (λ (l : List Call). automaticOn n (after (startOf b) l)) (behind j) ∙ before) rest)
+
   always : (n : ℕ) (g h : List Made) → Met st (h ++ g) → Always (UnrequestedOn n st g) h → Always (Unrequested n (startOf b) (callsOf g)) (callsOf h)
-  unfolding Always callsOf Met
+  unfolding Always Met callsOf madeOf spelledOut
   always n g [] met k = unrequested n g [] met k
-  always n g (m ∷ h) met k = (unrequested n g (m ∷ h) met (k .0), always n g h (met .1) (k .1))
+  always n g (m ∷ h) met k =
+      let d : Call = callOf m in
+      let now : Unrequested n (startOf b) (callsOf g) (callsOf (m ∷ h)) = unrequested n g (m ∷ h) met (k .0) in
+      let rest : Always (Unrequested n (startOf b) (callsOf g)) (callsOf h) = always n g h (met .1) (k .1) in
+      of-call d
+      (λ is.
+      subst (λ (l : List Call). Unrequested n (startOf b) (callsOf g) (l ++ callsOf h) → Always (Unrequested n (startOf b) (callsOf g)) (l ++ callsOf h))
+      (sym (spelled-many d is))
+      (λ end.
+      ticks-always n (d .room) (many-room d is) (callsOf g) (callsOf h)
+      (subst StateKept (seen-is h g (met .1)) (ruled b st begun (h ++ g) (met .1) .kept .state)) (countIn (bodyOf (d .bytes))) end rest) now)
+      (λ single.
+      subst (λ (l : List Call). Unrequested n (startOf b) (callsOf g) (l ++ callsOf h) → Always (Unrequested n (startOf b) (callsOf g)) (l ++ callsOf h))
+      (sym (spelled-one d single)) (λ end. (end, rest)) now)
 
   pub node-wtr-runs-on : (n : ℕ) (g h : List Made) → Met st (h ++ g) → Always (λ (k : List Made). automaticOn n (seen st (k ++ g)) ≡ none) h
       → spanSeen n st (h ++ g) .wtr ≡ spanSeen n st g .wtr - ticksTaken (ownFrom b) (callsOf h)
@@ -195,12 +236,20 @@ module _ (b : List ℕ) (st : Started) (begun : Begun b st) where
       of-both (λ (y z : State). spanOf n (y .spans) .wtr ≡ spanOf n (z .spans) .wtr - ticksTaken (ownFrom b) (callsOf h)) (seen-is h g met)
       (state-after b st begun g (met-before st h g met)) (wtr-runs-on (startOf b) n (callsOf g) (callsOf h) (always n g h met k))
 
-  -- A tick never lowers an automatic request.
+  -- A tick never lowers an automatic request; nor do many.
   pub node-tick-never-lowers : (n : ℕ) (h : List Made) (m : Made) → Met st (m ∷ h) → readAs (ownFrom b) (callOf m) ≡ Tick
       → automaticOn n (seen st h) ≤ automaticOn n (stateOf (m .answer .node))
-  unfolding Met callsOf startOf started
+  unfolding Met callsOf madeOf spelledOut startOf started
   node-tick-never-lowers n h m met is =
+      let c : Call = callOf m in
       let e : seen st h ≡ after (startOf b) (callsOf h) = state-after b st begun h (met .1) in
-      let d : stateOf (m .answer .node) ≡ after (startOf b) (callOf m ∷ callsOf h) = state-after b st begun (m ∷ h) met in
+      let d : stateOf (m .answer .node) ≡ after (startOf b) (callsOf (m ∷ h)) = state-after b st begun (m ∷ h) met in
+      let kept : StateKept (after (startOf b) (callsOf h)) = subst StateKept e (ruled b st begun h (met .1) .kept .state) in
       of-both (λ (y z : State). automaticOn n y ≤ automaticOn n z) e d
-      (never-lowered (startOf b) (callsOf h) (callOf m) is n (subst StateKept e (ruled b st begun h (met .1) .kept .state)))
+      (of-call c
+      (λ many.
+      subst (λ (l : List Call). automaticOn n (after (startOf b) (callsOf h)) ≤ automaticOn n (after (startOf b) (l ++ callsOf h))) (sym (spelled-many c many))
+      (ticks-never-lower (startOf b) (c .room) (many-room c many) (callsOf h) kept n (countIn (bodyOf (c .bytes)))))
+      (λ single.
+      subst (λ (l : List Call). automaticOn n (after (startOf b) (callsOf h)) ≤ automaticOn n (after (startOf b) (l ++ callsOf h))) (sym (spelled-one c single))
+      (never-lowered (startOf b) (callsOf h) c is n kept)))

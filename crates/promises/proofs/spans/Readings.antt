@@ -1,5 +1,5 @@
 -- A record that was read names span 0 or 1, and a reading refuses by 1 to 6. Of any bytes. Assumes nothing.
-use Prim.Native.Nat.{ℕ, _-_, _≤_}
+use Prim.Native.Nat.{ℕ, _-_, _*_, _≤_}
 use mathlib.Core.Path.{_≡_, refl, sym}
 use mathlib.Core.Bool.{Bool, true, false, not, _&&_, and-eq-true-iff, true≢false}
 use mathlib.Core.List.{List}
@@ -13,7 +13,7 @@ use Rattle.spans.specs.Codes.{listed}
 use Rattle.stations.proofs.Lists.{chosen}
 use Rattle.controller.specs.declared.reading.Reading.{Reading}
 use Rattle.controller.specs.declared.reading.Reading.the-variants.{Refused, Tick, Link, Keepalive, Operator, Heard, Block}
-use Rattle.controller.specs.Reading.{linkFits, linkIn, keepaliveFits, keepaliveIn, operatorFits, operatorIn, reportFits, reportIn, blockFits, blockIn, kindIn, readIn, reading}
+use Rattle.controller.specs.Reading.{linkFits, linkIn, keepaliveFits, keepaliveIn, operatorFits, operatorIn, reportFits, reportIn, blockFits, blockIn, countIn, ticksFit, ticksIn, kindIn, readIn, reading}
 
 abbrev pub Sided : Reading → Type 0
 Sided (Refused k) = k ≤ 6
@@ -82,21 +82,26 @@ module _ (own : ℕ) (b : List ℕ) where
       (left (leb 7 (length b) && leb (length b) 1031 && leb (byteAt b 0) 1) (not (oddFirst (addressAt b 1))) h))))
       (λ h. omega arith)
 
-  kind-sided : (kind : ℕ) → Sided (kindIn own kind b)
+  ticks-sided : (room : ℕ) → Sided (ticksIn b room)
+  unfolding ticksIn
+  ticks-sided room = chosen Sided (ticksFit b) (λ h. chosen Sided (ltb room (7 * countIn b)) (λ j. omega arith) (λ j. tt)) (λ h. omega arith)
+
+  kind-sided : (kind room : ℕ) → Sided (kindIn own kind b room)
   unfolding kindIn
-  kind-sided kind =
+  kind-sided kind room =
       chosen Sided (eqb kind 1) (λ h. chosen Sided (eqb (length b) 0) (λ j. tt) (λ j. omega arith))
       (λ h. chosen Sided (eqb kind 2) (λ h. link-sided)
       (λ h. chosen Sided (eqb kind 3) (λ h. keepalive-sided)
       (λ h. chosen Sided (eqb kind 4) (λ h. operator-sided)
       (λ h. chosen Sided (eqb kind 5) (λ h. report-sided)
-      (λ h. chosen Sided (eqb kind 6) (λ h. block-sided) (λ h. omega arith))))))
+      (λ h. chosen Sided (eqb kind 6) (λ h. block-sided)
+      (λ h. chosen Sided (eqb kind 7) (λ h. ticks-sided room) (λ h. omega arith)))))))
 
 pub sided : (own : ℕ) (b : List ℕ) (room : ℕ) → Sided (reading own b room)
 unfolding reading readIn
 sided own b room =
     chosen Sided (ltb room 7) (λ h. omega arith)
-    (λ h. chosen Sided (broken b) (λ h. omega arith) (λ h. kind-sided own (bodyOf b) (kindOf b)))
+    (λ h. chosen Sided (broken b) (λ h. omega arith) (λ h. kind-sided own (bodyOf b) (kindOf b) room))
 
 -- Of two spans on one side there is one number.
 pub same-span : (m n : ℕ) → m ≤ 1 → n ≤ 1 → eqb m 0 ≡ eqb n 0 → m ≡ n

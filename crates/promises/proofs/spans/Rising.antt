@@ -1,9 +1,10 @@
--- A tick that is taken never lowers an automatic request, nor takes one away, after any history from any start. Assumes nothing.
-use Prim.Native.Nat.{ℕ, _≤_}
+-- A tick that is taken never lowers an automatic request, nor takes one away, after any history from any start; nor do many. Assumes nothing.
+use Prim.Native.Nat.{ℕ, zero, suc, _≤_}
 use mathlib.Core.Path.{_≡_, _∙_, ap, subst}
 use mathlib.Core.Bool.{Bool, true, false, cond}
-use mathlib.Core.List.{List, _∷_}
+use mathlib.Core.List.{List, _∷_, _++_}
 use native.Mathlib.Omega.{arith}
+use lib.ListN.{replicate}
 use lib.Dec.{eqb}
 use Rattle.settings.specs.declared.choice.Ticks.{Ticks}
 use Rattle.settings.specs.Kept.{TicksKept}
@@ -19,9 +20,11 @@ use Rattle.controller.specs.declared.reading.Reading.the-variants.{Tick}
 use Rattle.controller.specs.State.{Choice, Spans, State, spanOf, started}
 use Rattle.controller.specs.Handling.{acted}
 use Rattle.controller.specs.Kept.{StateKept}
-use Rattle.promises.specs.History.{Call, after, AllBytes}
+use Rattle.controller.proofs.Holding.{ticking-kept}
+use Rattle.promises.specs.History.{Call, after, tickWith, AllBytes}
 use Rattle.promises.specs.Spans.{readAs, spanAfter, automaticOn}
 use Rattle.promises.proofs.demand2.AfterKept.{after-kept, choice-after}
+use Rattle.promises.proofs.demand2.Spelling.{tick-read, ticks-after}
 use Rattle.promises.proofs.spans.OneRecord.{span-call, ticked-both}
 
 pub span-fair : (n : ℕ) (s : State) → StateKept s → SpanFair (s .choice .ticks) (spanOf n (s .spans))
@@ -54,6 +57,18 @@ module _ (s : State) (h : List Call) (c : Call) (is : readAs (s .choice .address
 
   pub never-taken-away : StateKept (after s h) → (automaticOn n (after s h) ≡ none → ⊥) → automaticOn n (after s (c ∷ h)) ≡ none → ⊥
   never-taken-away k some gone = some (omega (arith, never-lowered k))
+
+-- Many ticks after the calls l.
+module _ (s : State) (room : ℕ) (enough : 7 ≤ room) (l : List Call) (k : StateKept (after s l)) where
+  pub kept-ticks : (j : ℕ) → StateKept (after s (replicate j (tickWith room) ++ l))
+  kept-ticks j = subst StateKept (ticks-after room enough j s l) (ticking-kept j (after s l) k)
+
+  pub one-more : (n j : ℕ) → automaticOn n (after s (replicate j (tickWith room) ++ l)) ≤ automaticOn n (after s (replicate (suc j) (tickWith room) ++ l))
+  one-more n j = never-lowered s (replicate j (tickWith room) ++ l) (tickWith room) (tick-read room enough (s .choice .address)) n (kept-ticks j)
+
+  pub ticks-never-lower : (n j : ℕ) → automaticOn n (after s l) ≤ automaticOn n (after s (replicate j (tickWith room) ++ l))
+  ticks-never-lower n zero = omega arith
+  ticks-never-lower n (suc j) = omega (arith, ticks-never-lower n j, one-more n j)
 
 -- From any start, by bytes.
 module _ (c : Choice) (t : TicksKept (c .ticks)) (h : List Call) (b : AllBytes h) (d : Call) (is : readAs (c .address) d ≡ Tick) (n : ℕ) where

@@ -40,7 +40,7 @@ pub start-rows-unique :
 start-rows-unique = (λ w κs a x e. refl, λ κs a x y e f p q. ap (λ (s : Started). s .node .rows) (p .is ∙ sym (q .is)))
 
 pub take-record-unique : Fixes controller.take_record.ended controller.take_record.Reads.ensures controller.take_record.Reads.Post
-take-record-unique = (λ w κs a x e. refl, λ κs a x y e f p q. ap (λ (r : Answer). returned (r .result) (r .wrote)) (p .is ∙ sym (q .is)))
+take-record-unique = (λ w κs a x e. refl, λ κs a x y e f p q. ap (λ (r : Answer). returned (r .result) (r .reports)) (p .is ∙ sym (q .is)))
 
 pub take-record-own-unique :
     FixesPart controller.take_record.ended (λ κs. List ℕ) (λ κs x e. now (e .0))

@@ -2,7 +2,7 @@
 use Prim.Native.Nat.{ℕ}
 use mathlib.Core.Path.{_≡_, refl, sym, _∙_, ap}
 use mathlib.Core.Logic.{_⊎_, ⊎-elim}
-use mathlib.Core.Bool.{true, false, true≢false, false≢true}
+use mathlib.Core.Bool.{true, false, false≢true}
 use mathlib.Core.List.{List, [], _∷_}
 use native.Mathlib.Omega.{arith}
 use lib.ListN.{length, take}
@@ -18,12 +18,12 @@ use Rattle.blocks.specs.Entries.{cut}
 use Rattle.blocks.specs.Meaning.{known, has, sound, behind, value}
 use Rattle.ways.specs.declared.choice.Reply.{Reply}
 use Rattle.ways.specs.Choice.{number}
-use Rattle.controller.specs.Node.{Started, stateOf, startedWith, wrote, steered, asked}
+use Rattle.controller.specs.Node.{Started, stateOf, startedWith, reportsIn, steered, asked}
 use Rattle.controller.specs.declared.ask.Shown.{Shown}
 use Rattle.controller.specs.State.{State}
 use Rattle.controller.specs.Record.{Outcome, refusal}
 use Rattle.controller.specs.Promise.{Begun}
-use Rattle.promises.specs.History.{after, startOf, Made, nodeAfter}
+use Rattle.promises.specs.History.{afterAll, startOf, Made, nodeAfter}
 use Rattle.promises.specs.Examples.{tick, link, report, settings, station, P7, P10, P11, P12}
 use Rattle.promises.specs.Drilled.{callsFor, Drilled}
 use Rattle.promises.proofs.demand2.Demand2.{demand2-silent}
@@ -31,7 +31,7 @@ use Rattle.promises.proofs.demand2.Drilling.{lastOf, drill-state, drill
 
 -- What the rules give at the inputs below, by computation.
 abbrev stateIn : List (List ℕ) → State
-stateIn l = after (startOf (settings 2 0)) (callsFor l)
+stateIn l = afterAll (startOf (settings 2 0)) (callsFor l)
 
 abbrev answerIn : List (List ℕ) → Outcome
 answerIn l = lastOf (startOf (settings 2 0)) (callsFor l)
@@ -42,7 +42,7 @@ record Due : Type 0 where
   east : number (steered (stateIn (P12 .records)) (station 3)) ≡ 1
   stored : length (stateIn (report 0 255 2 1 0 0 ∷ []) .stations) ≡ 1
   values : asked (stateIn (P7 .records)) (station 2) .reply ≡ 0
-  skipped : asked (after (startOf (P10 .start)) (callsFor (P10 .records))) (station 2) .reply ≡ 0
+  skipped : asked (afterAll (startOf (P10 .start)) (callsFor (P10 .records))) (station 2) .reply ≡ 0
   first : stateIn (link 0 2 ∷ []) .pacer .sequence ≡ 1
   second : stateIn (link 0 2 ∷ link 0 0 ∷ []) .pacer .sequence ≡ 2
   three : length (stateIn (P11 .records) .stations) ≡ 3
@@ -50,7 +50,7 @@ record Due : Type 0 where
   told : answerIn (link 0 2 ∷ []) .report ≡ reportBytes 1 4 0
 
 due : Due
-unfolding after startOf startedWith steered asked settingsIn headOf broken fullIn fieldsOf inRange addressAt ticksOf cut known has sound behind value knows good among
+unfolding afterAll startOf startedWith steered asked settingsIn headOf broken fullIn fieldsOf inRange addressAt ticksOf cut known has sound behind value knows good among
 due = record {
   starts = refl;
   taken = refl;
@@ -103,7 +103,7 @@ always-behind st h d = not-behind (stateOf (nodeAfter st h)) (stateIn (P7 .recor
 pub always-behind-small : (st : Started) (h : List Made) → Drilled (P10 .start) (P10 .records) st h
     → (r : Shown) → r ≡ asked (stateOf (nodeAfter st h)) (station 2) → r .reply ≡ 1 → ⊥
 always-behind-small st h d =
-    not-behind (stateOf (nodeAfter st h)) (after (startOf (P10 .start)) (callsFor (P10 .records))) (drill-state d) (due .skipped)
+    not-behind (stateOf (nodeAfter st h)) (afterAll (startOf (P10 .start)) (callsFor (P10 .records))) (drill-state d) (due .skipped)
 
 -- Act only on the first record: 2 over sequences. The second call gives back the node that it was handed.
 pub first-record-only : (st : Started) (first second : Made) → Drilled (settings 2 0) (link 0 2 ∷ link 0 0 ∷ []) st (second ∷ first ∷ [])
@@ -120,18 +120,18 @@ count-made-up st h d r c other = other (c ∙ ap (λ (s : State). length (s .sta
 
 -- A made-up (..) report count: 2. A report told, or written, where there is none ..
 pub report-made-up : (st : Started) (m : Made) → Drilled (settings 2 0) (tick ∷ []) st (m ∷ [])
-    → (m .answer .wrote ≡ true) ⊎ (m .new ≡ m .old → ⊥) → ⊥
+    → (m .answer .reports ≡ 0 → ⊥) ⊎ (m .new ≡ m .old → ⊥) → ⊥
 report-made-up st m d =
-    let none : m .answer .wrote ≡ false = drill-answer d .written ∙ ap wrote (due .silent) in
-    ⊎-elim (λ told. false≢true (sym none ∙ told)) (λ other. other (demand2-silent (settings 2 0) st (d .begun) [] m (d .met) none))
+    let none : m .answer .reports ≡ 0 = drill-answer d .written ∙ ap reportsIn (due .silent) in
+    ⊎-elim (λ told. told none) (λ other. other (demand2-silent (settings 2 0) st (d .begun) [] m (d .met) none))
 
 -- .. and one kept back, or another one written, where there is one.
 pub report-kept-back : (st : Started) (m : Made) → Drilled (settings 2 0) (link 0 2 ∷ []) st (m ∷ [])
-    → (m .answer .wrote ≡ false) ⊎ (take 7 (m .new) ≡ reportBytes 1 4 0 → ⊥) → ⊥
+    → (m .answer .reports ≡ 1 → ⊥) ⊎ (take 7 (m .new) ≡ reportBytes 1 4 0 → ⊥) → ⊥
 unfolding reportBytes
 report-kept-back st m d =
-    let one : m .answer .wrote ≡ true = drill-answer d .written ∙ ap wrote (due .told) in
+    let one : m .answer .reports ≡ 1 = drill-answer d .written ∙ ap reportsIn (due .told) in
     let bytes : m .new ≡ over (reportBytes 1 4 0) (m .old) =
     drill-answer d .content ∙ ap (λ (x : List ℕ). over x (m .old)) (due .told) in
-    ⊎-elim (λ kept. true≢false (sym one ∙ kept))
+    ⊎-elim (λ kept. kept one)
     (λ other. other (ap (take 7) bytes ∙ front-is-report 1 4 0 (m .old) (omega (arith, drill-room d))))

@@ -6,6 +6,7 @@ use text::pieces::{length, pieces};
 use text::record::Record;
 use text::writing;
 
+use crate::many::Counter;
 use crate::plans::planning::behind;
 use crate::plans::questions::KIND;
 use crate::ring::LARGEST;
@@ -27,7 +28,7 @@ const OTHER_LENGTH: &str = "4, a question of another length";
 const SEVERAL: &str = "31, several stations behind";
 const BEHIND_TOO: &str = "32, a station behind";
 
-/// What is counted: each line by its result, and then how many of a result are of which sort.
+/// What is counted beside kind 7: each line by its result, and then how many of a result are of which sort.
 pub const LABELS: [&str; 22] = [
     "result 0",
     "result 4",
@@ -86,13 +87,15 @@ pub fn count(input: &[u8], said: &[u8], tally: &mut Tally) {
     }
     let answered = answered(input, &said);
     let settings = answered.first().map_or(&[][..], |(settings, _)| settings);
-    let (_, mut node) = Node::start(settings);
+    let (result, mut node) = Node::start(settings);
+    if result != 0 {
+        return;
+    }
+    let mut counter = Counter::default();
     for (record, line) in answered.into_iter().skip(1) {
         match line {
             Some(line) => count_table(&node, record, line, tally),
-            None => {
-                node.record(record, &mut [0; 7]);
-            }
+            None => counter.give(&mut node, record, tally),
         }
     }
 }

@@ -14,6 +14,7 @@ use text::records::{self, Bytes, Settings};
 
 use crate::chance::Chance;
 use crate::maker::Maker;
+use crate::many;
 use crate::opening::{self, Opening};
 use crate::plans::planning::Planning;
 use crate::script::{end, Script};
@@ -57,7 +58,7 @@ impl Subject for Plans {
     }
 
     fn nothing(&self) -> Tally {
-        Tally::new(self.word(), &lines::LABELS)
+        Tally::new(self.word(), &[&lines::LABELS[..], &many::LABELS].concat())
     }
 
     fn count(&self, input: &[u8], said: &[u8]) -> Tally {
@@ -111,7 +112,7 @@ fn play(mut chance: Chance, budget: usize, settings: Option<Bytes>) -> Script {
     let stations = chance.pick(&[small, small, small, large]);
     let mut p = Planning::new(Maker::new(chance, opening, stations));
     questions::ask(&mut p);
-    while p.maker.records.len() < budget {
+    while p.maker.length() < budget {
         match p.maker.chance.below(10) {
             0..=2 => p.maker.heal(),
             3..=5 => scenes::catch_up(&mut p),
@@ -138,7 +139,7 @@ fn opening(chance: &mut Chance) -> Opening {
 mod tests {
     use std::collections::BTreeSet;
 
-    use model::Node;
+    use model::{Node, OUTPUT_ROOM};
 
     use super::*;
 
@@ -146,6 +147,25 @@ mod tests {
     fn a_seed_gives_one_plan() {
         assert_eq!(plan(17), plan(17));
         assert_ne!(plan(17), plan(18));
+    }
+
+    #[test]
+    fn many_plans_reach_kind_7() {
+        let mut sum = Plans.nothing();
+        for seed in 1..=200 {
+            let bytes = plan(seed).bytes();
+            sum.add(&Plans.count(&bytes, &right(&Plans, &bytes)));
+        }
+        let least = [
+            (many::INPUTS, 80),
+            (many::TAKEN, 500),
+            (many::REFUSED, 20),
+            (many::SEVERAL, 80),
+            (many::LEFT, 40),
+        ];
+        for (label, least) in least {
+            assert!(sum.of(label) > least, "{label}: {}", sum.of(label));
+        }
     }
 
     /// What a question finds in the table, and what it is answered.
@@ -161,7 +181,7 @@ mod tests {
         let (result, mut node) = Node::start(&script.settings);
         let mut all = Vec::new();
         for record in script.records.iter().filter(|_| result == 0) {
-            node.record(record, &mut [0; 7]);
+            node.record(record, &mut [0; OUTPUT_ROOM]);
             let Some((rate, own)) = lines::asked(record) else {
                 continue;
             };
@@ -201,7 +221,8 @@ mod tests {
                 assert!(seen > common / 2, "{wanted}: {seen} of {}", free.len());
             }
             assert!(count(&|free| free == 0) > common);
-            assert!(count(&|free| free < -1_000_000) > common);
+            let low = count(&|free| free < -1_000_000);
+            assert!(low > common, "{low} of {}", free.len());
             assert!(count(&|free| free > 10_000) > common);
         }
     }

@@ -1,7 +1,7 @@
 //! A plan in the making: the maker of a drill, and the right model beside it.
 //! The model tells what is reserved, so that questions can be asked of which the answer is close to zero.
 
-use model::Node;
+use model::{Node, OUTPUT_ROOM};
 
 use crate::maker::Maker;
 
@@ -30,7 +30,7 @@ impl Planning {
     /// The node after all that was given so far.
     fn node(&mut self) -> &Node {
         for record in &self.maker.records[self.played..] {
-            self.node.record(record, &mut [0; 7]);
+            self.node.record(record, &mut [0; OUTPUT_ROOM]);
         }
         self.played = self.maker.records.len();
         &self.node

@@ -5,6 +5,7 @@ use text::records::{self, Report};
 use crate::blocks;
 use crate::chance::Chance;
 use crate::maker::{Maker, NONE_DEAF};
+use crate::owed;
 use crate::plans::planning::Planning;
 use crate::plans::questions::{ask, ask_once};
 use crate::ring::LARGEST;
@@ -22,12 +23,12 @@ pub const SCENES: [(usize, Scene); 8] = [
     (5, fail),
     (5, displace),
     (4, forget),
-    (3, crowd),
+    (4, crowd),
     (6, of_a_drill),
 ];
 
 /// Scenes of drills by which stations come, move and leave. Their own questions are of an unknown kind here.
-const OF_A_DRILL: [(usize, drill::Scene); 10] = [
+const OF_A_DRILL: [(usize, drill::Scene); 11] = [
     (2, drill::learn),
     (2, drill::quarrel),
     (1, drill::displace),
@@ -36,6 +37,7 @@ const OF_A_DRILL: [(usize, drill::Scene); 10] = [
     (1, drill::cross),
     (1, drill::fill),
     (2, drill::block_round),
+    (1, owed::spell),
     (1, wild::refusals),
     (1, wild::mutations),
 ];

@@ -61,7 +61,8 @@ fn area_of(pen: &mut Pen, part: Part, code: u8, top: f64) {
 /// A report sent.
 struct Mark {
     x: f64,
-    sequence: u8,
+    /// None where it is not printed: of several in one record it is that of the last, and the others may have an older one.
+    sequence: Option<u8>,
     /// Whether its sequence is not that of the one before it in the strip.
     is_new: bool,
 }
@@ -81,7 +82,10 @@ pub fn reports(chart: &Chart, strip: &Range<usize>, pen: &mut Pen, y: f64) -> f6
     // Where there is not room for all, the first of each sequence comes first.
     for is_new in [true, false] {
         for mark in marks.iter().filter(|mark| mark.is_new == is_new) {
-            let words = mark.sequence.to_string();
+            let Some(sequence) = mark.sequence else {
+                continue;
+            };
+            let words = sequence.to_string();
             let half = width(&words, SEQUENCE) / 2.0;
             let (from, to) = (mark.x - half - 1.0, mark.x + half + 1.0);
             if taken.iter().all(|&(left, right)| to < left || right < from) {
@@ -95,14 +99,21 @@ pub fn reports(chart: &Chart, strip: &Range<usize>, pen: &mut Pen, y: f64) -> f6
 
 fn marks(chart: &Chart, strip: &Range<usize>) -> Vec<Mark> {
     let mut marks: Vec<Mark> = Vec::new();
-    for (x, _, step) in chart.places(strip) {
-        if let Some(sequence) = step.sent() {
-            let before = marks.last().map(|mark| mark.sequence);
+    let mut known = None;
+    for (x, tick, step) in chart.places(strip) {
+        let Some((reports, sequence)) = step.sent() else {
+            continue;
+        };
+        // When they were sent within the record is not printed: they are spread over it.
+        let apart = tick * step.ticks() as f64 / f64::from(reports);
+        for place in 0..reports {
+            let is_told = place + 1 == reports || step.before == Some(sequence);
             marks.push(Mark {
-                x,
-                sequence,
-                is_new: before != Some(sequence),
+                x: x + apart * f64::from(place),
+                sequence: is_told.then_some(sequence),
+                is_new: is_told && known != Some(sequence),
             });
+            known = if is_told { Some(sequence) } else { known };
         }
     }
     marks

@@ -43,18 +43,19 @@ pub struct Cell {
 /// The width of one tick: one for the whole drill, so that the longest run fits well within a line.
 pub fn scale(steps: &[Step], line: f64) -> f64 {
     let runs = steps.chunk_by(|one, next| one.is_time() == next.is_time());
-    let ticks = runs.map(|run| run.iter().filter(|step| step.is_tick()).count());
-    let (longest, all) = ticks.fold((1, 1), |(longest, all), ticks| {
+    let ticks = runs.map(|run| run.iter().map(Step::ticks).sum());
+    let (longest, all) = ticks.fold((1, 1), |(longest, all), ticks: u64| {
         (ticks.max(longest), all + ticks)
     });
-    let records = steps.iter().filter(|step| !step.is_time()).count();
+    let records = steps.iter().filter(|step| !step.is_time());
+    let records = records.map(|_| 1).sum();
     let room = (LINES * line).max(SHARE * COLUMN * as_length(records));
     let fitting = LONGEST_RUN * line / as_length(longest);
     WIDEST_TICK.min(fitting).min(room / as_length(all))
 }
 
-/// Numbers of records are far below those that a float cannot hold.
-fn as_length(number: usize) -> f64 {
+/// Numbers of records and ticks are far below those that a float cannot hold.
+fn as_length(number: u64) -> f64 {
     number as f64
 }
 
@@ -71,13 +72,13 @@ pub fn cells(steps: &[Step], changes: &BTreeSet<usize>, tags: &Tags, tick: f64) 
         match before {
             Some(cell) if goes_on(cell, step, most) && !changed => {
                 cell.steps.end = place + 1;
-                cell.ticks += u64::from(step.is_tick());
+                cell.ticks += step.ticks();
             }
             _ => {
                 runs += usize::from(step.is_time() && run_before.is_none());
                 cells.push(Cell {
                     steps: place..place + 1,
-                    ticks: u64::from(step.is_tick()),
+                    ticks: step.ticks(),
                     run: step.is_time().then_some(runs),
                     opens: changed || run_before.is_none() || !step.is_time(),
                     requests: step.requests,

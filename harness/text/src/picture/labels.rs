@@ -84,6 +84,7 @@ pub fn label(step: &Step, tags: &Tags) -> String {
     let words = match step.record {
         Record::Settings(_) | Record::ShortSettings(_) => "settings".to_string(),
         Record::Tick => "tick".to_string(),
+        Record::Ticks(count) => format!("ticks {count}"),
         Record::Keepalive(span) => format!("keepalive {}", word(SPANS, *span)),
         Record::Link(span, status) => {
             format!("link {} {}", word(SPANS, *span), word(STATUSES, *status))

@@ -148,16 +148,16 @@ impl Chart<'_> {
         pen.words("row", Anchor::End, (LEFT - 8.0, y), name);
     }
 
-    /// Every step of a strip, with its place on the timeline and its column.
-    fn places(&self, strip: &Range<usize>) -> impl Iterator<Item = (f64, &cells::Cell, &Step<'_>)> {
+    /// Every step of a strip, with its place on the timeline and the width of a tick there.
+    fn places(&self, strip: &Range<usize>) -> impl Iterator<Item = (f64, f64, &Step<'_>)> {
         self.layout.columns(strip).flat_map(|(x, cell)| {
             let steps = self.steps.get(cell.steps.clone()).unwrap_or_default();
             let tick = cell.width / cell.ticks.max(1) as f64;
             let mut before = 0.0;
             steps.iter().map(move |step| {
                 let place = x + before * tick;
-                before += f64::from(u8::from(step.is_tick()));
-                (place, cell, step)
+                before += step.ticks() as f64;
+                (place, tick, step)
             })
         })
     }

@@ -15,6 +15,8 @@ pub struct Step<'p> {
     pub answer: Answer,
     /// West and east request after it; none before the first line that tells them.
     pub requests: Option<[u8; 2]>,
+    /// The own sequence before it; none before the first line that tells it.
+    pub before: Option<u8>,
 }
 
 impl Step<'_> {
@@ -33,21 +35,26 @@ impl Step<'_> {
         self.answer == Answer::Short(2)
     }
 
-    /// Whether it belongs to a run of time: a tick, or a keepalive that was taken.
+    /// Whether it belongs to a run of time: ticks, or a keepalive, that were taken.
     pub fn is_time(&self) -> bool {
-        let of_time = matches!(self.record, Record::Tick | Record::Keepalive(_));
+        let passes = matches!(self.record, Record::Tick | Record::Ticks(_));
+        let of_time = passes || matches!(self.record, Record::Keepalive(_));
         of_time && self.refusal().is_none()
     }
 
-    /// Whether time passes.
-    pub fn is_tick(&self) -> bool {
-        *self.record == Record::Tick && self.is_time()
+    /// How many ticks pass.
+    pub fn ticks(&self) -> u64 {
+        match self.record {
+            Record::Tick if self.is_time() => 1,
+            Record::Ticks(count) if self.is_time() => u64::from(*count),
+            _ => 0,
+        }
     }
 
-    /// The sequence of the report that was sent, if one was.
-    pub fn sent(&self) -> Option<u8> {
+    /// How many reports were sent, and the sequence of the last.
+    pub fn sent(&self) -> Option<(u16, u8)> {
         let full = self.answer.full()?;
-        (full.reports > 0).then_some(full.sequence)
+        (full.reports > 0).then_some((full.reports, full.sequence))
     }
 }
 
@@ -68,11 +75,13 @@ pub fn steps(play: &Play) -> Result<Vec<Step<'_>>, String> {
     if let Some(line) = play.beyond.first() {
         return Err(format!("'{line}' is printed where the drill has ended"));
     }
-    let mut requests = None;
+    let (mut requests, mut sequence) = (None, None);
     let records = play.told.iter().enumerate().skip(1);
     let steps = records.map(|(place, told)| {
-        let step = step(place, told, requests)?;
+        let mut step = step(place, told, requests)?;
         requests = step.requests;
+        step.before = sequence;
+        sequence = step.answer.full().map(|full| full.sequence).or(sequence);
         Ok(step)
     });
     steps.collect()
@@ -87,6 +96,7 @@ fn step(place: usize, told: &Told, before: Option<[u8; 2]>) -> Result<Step<'_>, 
             record: &told.record,
             answer,
             requests: answer.full().map(|full| full.requests).or(before),
+            before: None,
         }),
         _ => Err(format!(
             "'{line}' is printed where line {place} of the program should stand"

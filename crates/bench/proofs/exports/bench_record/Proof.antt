@@ -20,15 +20,19 @@ array-share-prefix-bytes c = search needs
 slice-aggregate-carry : tie.Need-slice-aggregate-carry
 slice-aggregate-carry c = simp length-take (omega arith)
 
+slice-aggregate-carry-2 : tie.Need-slice-aggregate-carry-2
+slice-aggregate-carry-2 c = search needs
+
 carry-requires : tie.Need-carry-requires
 carry-requires c κs = search needs
 
 returns : tie.Need-returns
 returns c =
-    let readies = c .before .before .before .before in
+    let carries = c .before in
+    let readies = carries .before .before .before .before .before in
     let picks = readies .before .before .before .before in
     rw (← picks .before .capped .ensures .0, ← picks .record-of .ensures .front, ← readies .ready .ensures .same)
-    (c .carry .ensures)
+    (carries .carry .ensures)
 
 pub bench-record-spec : {M : Type 1} → statement M
 bench-record-spec =
@@ -39,5 +43,6 @@ bench-record-spec =
     ready-requires
     array-share-prefix-bytes
     slice-aggregate-carry
+    slice-aggregate-carry-2
     carry-requires
     returns)

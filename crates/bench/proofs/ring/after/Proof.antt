@@ -4,6 +4,7 @@ use lib.ListN.{length-take}
 use native.Mathlib.Omega.{arith}
 use borrow.Author.Needs.{needs}
 use Rattle.controller.specs.Node.{Answer}
+use Rattle.bench.specs.Ring.{taken, takenIn}
 use Rattle.bench.proofs.ring.after.Statement.{statement}
 use Rattle.bench.proofs.ring.after.Tie as tie
 
@@ -19,6 +20,7 @@ take-requires : tie.Need-take-requires
 take-requires c κs = search needs
 
 returns : tie.Need-returns
+unfolding taken takenIn
 returns c = record { same = ap (λ (a : Answer). a .node) (c .take .ensures .is); kept = c .take .ensures .kept }
 
 pub after-spec : {M : Type 1} → statement M

@@ -1,6 +1,6 @@
 -- The lent buffer has the seven bytes of room that `taken` names. Assumes nothing.
 use borrow.Author.Needs.{needs}
-use Rattle.bench.specs.Ring.{taken}
+use Rattle.bench.specs.Ring.{takenIn}
 use Rattle.bench.proofs.ring.take.Statement.{statement}
 use Rattle.bench.proofs.ring.take.Tie as tie
 
@@ -11,7 +11,7 @@ take-record-requires : tie.Need-take-record-requires
 take-record-requires c κs = search needs
 
 returns : tie.Need-returns
-unfolding taken
+unfolding takenIn
 returns c = record { is = c .before .take-record .ensures .is; kept = c .before .take-record .ensures .kept }
 
 pub take-spec : {M : Type 1} → statement M

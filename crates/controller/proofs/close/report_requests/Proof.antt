@@ -1,7 +1,7 @@
 -- The pacer steps with the requests of the two spans; where nothing is due, nothing is stored. Assumes nothing.
-use mathlib.Core.Path.{sym, _∙_}
+use mathlib.Core.Path.{refl, sym, _∙_}
 use Rattle.controller.proofs.Packing.{reported-still, reported-paced}
-use Rattle.controller.proofs.Records.{over-none}
+use Rattle.controller.proofs.Reports.{over-none}
 use borrow.Author.Needs.{needs}
 use Rattle.controller.proofs.close.report_requests.Statement.{statement}
 use Rattle.controller.proofs.close.report_requests.Tie as tie
@@ -65,7 +65,7 @@ returns-2 c =
     let if2 = c .before .before .before .before .if2 in
     let put-report = c .before .before .put-report in
     reported-paced (entry .args .tick) (entry .pre) (ticks-in .ensures) (span-in .ensures) (span-in2 .ensures) (request .ensures) (request2 .ensures)
-    (pacer-in .ensures) (pace-copy .result) (pace-copy .ensures) (put-pacer .ensures) (rw (if2 .taken) (put-report .ensures .content))
+    (pacer-in .ensures) (pace-copy .result) (pace-copy .ensures) (put-pacer .ensures) (rw (if2 .taken) (put-report .ensures .content)) (rw (if2 .taken) refl)
 
 returns-3 : tie.Need-returns-3
 returns-3 c =
@@ -78,7 +78,7 @@ returns-3 c =
     let pacer-in = c .before .before .before .before .before .before .before .pacer-in in
     let pace-copy = c .before .before .before .before .pace-copy in
     reported-paced (entry .args .tick) (entry .pre) (ticks-in .ensures) (span-in .ensures) (span-in2 .ensures) (request .ensures) (request2 .ensures)
-    (pacer-in .ensures) (pace-copy .result) (pace-copy .ensures) (c .before .put-pacer .ensures) (rw (c .if2 .left) (over-none _))
+    (pacer-in .ensures) (pace-copy .result) (pace-copy .ensures) (c .before .put-pacer .ensures) (rw (c .if2 .left) (over-none _)) (rw (c .if2 .left) refl)
 
 pub report-requests-spec : {M : Type 1} → statement M
 report-requests-spec =

@@ -1,4 +1,5 @@
 -- Seven numbers, one behind the other: at most 147 bytes. Assumes nothing.
+use mathlib.Core.Path.{refl}
 use Rattle.controller.specs.Node.{answerIn}
 use Rattle.drill.proofs.Records.{record-lined}
 use borrow.Author.Needs.{needs}
@@ -38,8 +39,8 @@ station-count-requires c κs = search needs
 put-number-requires-4 : tie.Need-put-number-requires-4
 put-number-requires-4 c κs = search needs
 
-written-requires : tie.Need-written-requires
-written-requires c κs = search needs
+cast-put-number-3 : tie.Need-cast-put-number-3
+cast-put-number-3 c = search needs
 
 put-number-requires-5 : tie.Need-put-number-requires-5
 put-number-requires-5 c κs = search needs
@@ -58,7 +59,7 @@ returns c =
     let put-number4 = c .before .before .before .put-number4 in
     let a = answerIn (entry .args .own .now) (entry .args .rows .now) (entry .args .a) in
     record-lined (entry .args .number) a _ _ _ _ _ (west-request .ensures) (east-request .ensures) (own-sequence .ensures)
-    (station-count .ensures) (c .before .written .ensures)
+    (station-count .ensures) refl
     (put-number .ensures) (put-number2 .ensures) (put-requests .ensures) (put-number3 .ensures) (put-number4 .ensures) (c .put-number5 .ensures)
 
 pub put-record-spec : {M : Type 1} → statement M
@@ -76,6 +77,6 @@ put-record-spec =
     put-number-requires-3
     station-count-requires
     put-number-requires-4
-    written-requires
+    cast-put-number-3
     put-number-requires-5
     returns)
