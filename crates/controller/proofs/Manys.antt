@@ -8,10 +8,10 @@ use native.Mathlib.Omega.{arith}
 use lib.ListN.{length}
 use types.Run.{OneOf}
 use lib.Dec.{eqb, leb, ltb}
-use borrow.Author.Tests.{eqb-true, eq-eqb, ne-eqb, leb-true, le-leb, lt-leb, ltb-true, ltb-false, le-ltb, not-true}
+use borrow.Author.Tests.{eqb-true, eq-eqb, ne-eqb, leb-true, le-leb, ltb-false, le-ltb, not-true}
 use Rattle.wire.specs.Head.{kindOf, bodyOf, broken}
 use Rattle.wire.proofs.Truths.{both}
-use Rattle.controller.specs.Reading.{Reading, Refused, Tick, countIn, ticksFit, ticksIn, kindIn, readIn, reading, manyTicks, timesIn}
+use Rattle.controller.specs.Reading.{Reading, Refused, Tick, countIn, ticksFit, ticksIn, readIn, reading, manyTicks, timesIn}
 use Rattle.controller.specs.Closing.{isTick}
 
 pub refused-no-tick : (i : ℕ) → Refused i ≡ Tick → ⊥

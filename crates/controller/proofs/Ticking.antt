@@ -1,5 +1,5 @@
 -- Many ticks, one after another: what is still to come, and what is there already. Assumes nothing.
-use Prim.Native.Nat.{ℕ, zero, suc, _+_, _-_, _*_, _/_, _<_, _≤_}
+use Prim.Native.Nat.{ℕ, zero, suc, _+_, _-_, _*_, _<_, _≤_}
 use mathlib.Core.Path.{_≡_, refl, sym, _∙_, ap, subst}
 use mathlib.Core.Bool.{Bool, true, false, cond}
 use mathlib.Core.List.{List, [], _++_, append-nil, append-assoc}
@@ -9,14 +9,12 @@ use lib.Seq.{length-take-le, take-all, take-append-add, drop-append-add, take-ap
 use lib.Dec.{leb}
 use borrow.Author.Tests.{leb-true, le-leb}
 use Rattle.wire.specs.Report.{over}
-use Rattle.settings.specs.declared.choice.Settings.{Settings}
-use Rattle.pacer.specs.declared.steps.Paced.{Paced}
 use Rattle.controller.specs.Reading.{Tick}
-use Rattle.controller.specs.State.{Spans, State}
+use Rattle.controller.specs.State.{State}
 use Rattle.controller.specs.Handling.{acted, judged}
-use Rattle.controller.specs.Closing.{settled, pacing, reportOf}
-use Rattle.controller.specs.Record.{Outcome, closed, outcomeOf, ticking}
-use Rattle.controller.specs.Node.{Node, Answer, settingsOf, stateOf, nodeOf, nodeIn, reportsIn, answerOf}
+use Rattle.controller.specs.Closing.{settled, pacing}
+use Rattle.controller.specs.Record.{closed, outcomeOf, ticking}
+use Rattle.controller.specs.Node.{Node, Answer, settingsOf, stateOf, nodeOf, nodeIn, reportsIn}
 use Rattle.controller.specs.Kept.{StateKept, Kept}
 use Rattle.controller.specs.Steps.{TookReading, TookTick, TookTicks}
 use Rattle.controller.proofs.Reports.{over-none, report-whole}

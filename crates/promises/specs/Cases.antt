@@ -71,6 +71,7 @@ alone =
     ∷ case fresh (many 0) 7 (4 ∷ []) 4
     ∷ case fresh (many 1001) 7007 (4 ∷ []) 4
     ∷ case fresh (3 ∷ 0 ∷ 7 ∷ 0 ∷ 1 ∷ []) 7 (4 ∷ []) 4
+    ∷ case fresh (5 ∷ 0 ∷ 7 ∷ 0 ∷ 1 ∷ 0 ∷ 0 ∷ []) 7 (4 ∷ []) 4
     ∷ case fresh (many 2) 13 (1 ∷ []) 1
     ∷ []
 

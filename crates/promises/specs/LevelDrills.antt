@@ -6,7 +6,7 @@ use Rattle.controller.specs.State.{State}
 use Rattle.controller.specs.Node.{Started, startedWith}
 use Rattle.promises.specs.History.{Call, startOf}
 use Rattle.promises.specs.Possible.{Handed}
-use Rattle.promises.specs.Examples.{settings, link, report, attributes}
+use Rattle.promises.specs.Examples.{settings, link, many, report, attributes}
 
 -- The calls, the latest first, each with room for a report.
 abbrev pub call : List ℕ → Call
@@ -48,12 +48,20 @@ shortTwo = 0 ∷ 2 ∷ 0 ∷ 1 ∷ 9 ∷ 0x80 ∷ 1 ∷ 0 ∷ 2 ∷ 3 ∷ 5 ∷ 
 abbrev pub eights : List Call
 eights = call (attributes 2 shortTwo) ∷ joined
 
--- The same as nodes of the program, and their calls, with a buffer for each.
+-- 02, Item 4: the block that level 1 sets aside, and then two ticks in one record.
+abbrev pub ages : List Call
+ages = record { bytes = many 2; room = 14 } ∷ asides
+
+-- The same as nodes of the program, and their calls, with a buffer for each; the ten ticks write a report.
 abbrev pub room : List ℕ
 room = replicate 7 0
 
 abbrev pub handed : List Handed
-handed = record { bytes = attributes 2 typeTwo; old = room } ∷ record { bytes = report 0 255 2 1 0 0; old = room } ∷ []
+handed =
+    record { bytes = many 10; old = replicate 70 0 }
+    ∷ record { bytes = attributes 2 typeTwo; old = room }
+    ∷ record { bytes = report 0 255 2 1 0 0; old = room }
+    ∷ []
 
 abbrev pub smallNode : Started
 smallNode = startedWith (settings 1 0)

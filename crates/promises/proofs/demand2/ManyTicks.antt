@@ -2,7 +2,7 @@
 -- Assumes nothing.
 use Prim.Native.Nat.{ℕ, zero, suc, _+_, _*_, _≤_}
 use mathlib.Core.Path.{_≡_, refl, sym, _∙_, ap}
-use mathlib.Core.Bool.{true, false}
+use mathlib.Core.Bool.{true}
 use mathlib.Core.List.{List, [], _∷_, _++_, append-nil, append-assoc}
 use native.Mathlib.Omega.{arith}
 use lib.ListN.{length, take, drop, replicate}
@@ -19,7 +19,7 @@ use Rattle.controller.specs.Kept.{Kept}
 use Rattle.controller.specs.Promise.{Recorded}
 use Rattle.controller.proofs.Manys.{one-event}
 use Rattle.controller.proofs.Ticking.{Reports, reports-number, reports-both, ticking-result}
-use Rattle.promises.specs.History.{Call, after, tickWith, afterAll, answeredAll, Made, madeOf, Met, AnsweredAs}
+use Rattle.promises.specs.History.{Call, after, tickWith, afterAll, Made, madeOf, Met, AnsweredAs}
 use Rattle.promises.specs.ManyTicks.{toldAll, reportsLeft, allReports, allNumbers, from, SameAs}
 use Rattle.promises.proofs.demand2.Spelling.{tick-outcome, next-tick, outcomes-one, outcomes-many, many-room}
 use Rattle.promises.proofs.demand2.Coming.{node-came, came-answered}

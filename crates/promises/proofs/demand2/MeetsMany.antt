@@ -14,7 +14,7 @@ use Rattle.controller.specs.Node.{stateOf, answerOf}
 use Rattle.controller.specs.Promise.{Recorded}
 use Rattle.promises.specs.History.{tickWith, Made, madeOf, Met}
 use Rattle.promises.specs.Possible.{Handed, AllHanded, made, areBytes}
-use Rattle.promises.specs.Examples.{tick, many, settings}
+use Rattle.promises.specs.Examples.{tick, many}
 use Rattle.promises.specs.Cases.{fresh}
 use Rattle.promises.specs.ManyTicks.{from, SameAs}
 use Rattle.promises.proofs.demand1.Meets1.{fresh-kept}

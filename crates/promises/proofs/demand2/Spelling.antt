@@ -1,7 +1,7 @@
 -- Calls with records of many ticks among them, and the history in which each of these is read as so many ticks. Assumes nothing.
 use Prim.Native.Nat.{ℕ, zero, suc, _+_, _≤_}
 use mathlib.Core.Path.{_≡_, refl, sym, _∙_, ap}
-use mathlib.Core.Bool.{Bool, true, false, cond, true≢false}
+use mathlib.Core.Bool.{Bool, true, false, true≢false}
 use mathlib.Core.List.{List, [], _∷_, _++_, append-assoc}
 use native.Mathlib.Omega.{arith}
 use lib.ListN.{replicate, replicate-append-replicate}
@@ -14,7 +14,7 @@ use Rattle.controller.specs.State.{State}
 use Rattle.controller.specs.Handling.{acted, judged}
 use Rattle.controller.specs.Closing.{isTick}
 use Rattle.controller.specs.Record.{Outcome, closed, outcomeOf, outcome, ticking, outcomes}
-use Rattle.controller.proofs.Manys.{Many, many-parts, many-read, other-event}
+use Rattle.controller.proofs.Manys.{Many, many-parts, other-event}
 use Rattle.promises.specs.History.{Call, after, answered, tickWith, spelled, spelledOut, afterAll, answeredAll}
 
 -- A history goes on from what the one before it left.

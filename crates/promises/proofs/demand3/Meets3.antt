@@ -1,5 +1,5 @@
--- Histories that meet the hypotheses of demand 3, by computation: a block that the smaller node sets aside and the larger takes, one that both take, and a station
--- that leaves and comes again. Assumes nothing.
+-- Histories that meet the hypotheses of demand 3, by computation: a block that the smaller node sets aside and the larger takes, one that both take, a station
+-- that leaves and comes again, and many ticks in one record. Assumes nothing.
 use Prim.Native.Nat.{_≤_}
 use mathlib.Core.Path.{_≡_, refl}
 use mathlib.Core.List.{[], _∷_}
@@ -18,12 +18,12 @@ use Rattle.stations.specs.Rows.{image, tableIn}
 use Rattle.controller.specs.Own.{ownOf}
 use Rattle.controller.specs.Promise.{Begun}
 use Rattle.controller.specs.Node.{startedWith, asked}
-use Rattle.promises.specs.History.{after, answered, startOf, madeOf, Met}
+use Rattle.promises.specs.History.{after, afterAll, spelledOut, answered, startOf, madeOf, Met}
 use Rattle.promises.specs.Levels.{NoEight, latest, noBlocks, saysBehind, withLevel, NoEightMade}
 use Rattle.promises.specs.Possible.{AllHanded, made, areBytes}
-use Rattle.promises.specs.LevelDrills.{call, small, large, typeTwo, joined, asides, typeOne, takes, returns, handed, smallNode, largeNode}
+use Rattle.promises.specs.LevelDrills.{call, small, large, typeTwo, joined, asides, typeOne, takes, returns, ages, handed, smallNode, largeNode}
 use Rattle.promises.proofs.demand2.Possible.{begins, made-met, calls-made, are-bytes}
-use Rattle.promises.specs.Examples.{settings, station, report, attributes, shownAs}
+use Rattle.promises.specs.Examples.{settings, station, many, report, attributes, shownAs}
 
 -- Level 1 and level 2, else equal.
 pub equal : settingsIn (settings 1 0) .settings ≡ withLevel 1 (settingsIn (settings 2 0) .settings)
@@ -67,6 +67,15 @@ pub returns-shown : (shownAs (asked (after small returns) (station 2)) ≡ 0 ∷
 unfolding after asked latest startOf settingsIn headOf broken fullIn fieldsOf inRange addressAt ticksOf cut known has sound behind value knows good among
 returns-shown = (refl, refl)
 
+-- 02, Item 4: ticks in one record behind the block. Nothing is malformed when they are read as ticks, and level 1 is behind still.
+pub ages-no-eight : NoEight large (spelledOut ages)
+unfolding NoEight after spelledOut startOf settingsIn headOf broken fullIn fieldsOf inRange addressAt ticksOf cut known has sound behind value knows good among
+ages-no-eight = (λ e. omega arith, (λ e. omega arith, aside-no-eight))
+
+pub ages-shown : (asked (afterAll small ages) (station 2) ≡ saysBehind 2) × (latest noBlocks large (spelledOut ages) (station 2) ≡ some typeTwo)
+unfolding afterAll after spelledOut asked latest startOf settingsIn headOf broken fullIn fieldsOf inRange addressAt ticksOf cut known has sound behind value knows good among
+ages-shown = (refl, refl)
+
 -- The same at nodes of the program, from the bytes of their settings: every hypothesis of the theorems on nodes is met.
 pub begun-both : Begun (settings 1 0) smallNode × Begun (settings 2 0) largeNode
 unfolding areBytes
@@ -74,7 +83,7 @@ begun-both = (begins (settings 1 0) (are-bytes (settings 1 0) refl), begins (set
 
 bytes-handed : AllHanded handed
 unfolding AllHanded areBytes
-bytes-handed = (are-bytes (attributes 2 typeTwo) refl, (are-bytes (report 0 255 2 1 0 0) refl, tt))
+bytes-handed = (are-bytes (many 10) refl, (are-bytes (attributes 2 typeTwo) refl, (are-bytes (report 0 255 2 1 0 0) refl, tt)))
 
 pub met-both : Met smallNode (made smallNode handed) × Met largeNode (made largeNode handed)
 met-both = (made-met smallNode handed bytes-handed, made-met largeNode handed bytes-handed)
@@ -84,4 +93,4 @@ same-calls = calls-made smallNode largeNode handed
 
 pub none-eight : NoEightMade (made largeNode handed)
 unfolding NoEightMade made startedWith tableOf image tableIn ownOf blank settingsIn headOf broken fullIn fieldsOf inRange addressAt ticksOf cut known has sound behind value knows good among
-none-eight = (λ e. omega arith, (λ e. omega arith, tt))
+none-eight = (λ e. omega arith, (λ e. omega arith, (λ e. omega arith, tt)))

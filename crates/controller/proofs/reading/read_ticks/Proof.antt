@@ -1,5 +1,6 @@
 -- Wrong length, no tick, too many, no room, or ticks: one law for each return. Assumes nothing.
 use Rattle.controller.proofs.Bodies.{ticks-length, ticks-none, ticks-many, ticks-room, ticks-said}
+use native.Mathlib.Omega.{arith}
 use borrow.Author.Needs.{needs}
 use Rattle.controller.proofs.reading.read_ticks.Statement.{statement}
 use Rattle.controller.proofs.reading.read_ticks.Tie as tie
@@ -37,7 +38,7 @@ returns-4 c =
     let if3 = c .before .before .if3 in
     let room-for = c .before .room-for in
     ticks-room (entry .args .b .now) (entry .args .room) (if1 .left) (rw (word-at .ensures) at (if2 .left)) (rw (word-at .ensures) at (if3 .left))
-    (rw ((room-for .ensures), (word-at .ensures)) at (c .if4 .taken))
+    (omega (arith, room-for .ensures, word-at .ensures, c .if4 .taken))
 
 returns-5 : tie.Need-returns-5
 returns-5 c =
@@ -48,7 +49,7 @@ returns-5 c =
     let if3 = c .before .before .if3 in
     let room-for = c .before .room-for in
     ticks-said (entry .args .b .now) (entry .args .room) (if1 .left) (rw (word-at .ensures) at (if2 .left)) (rw (word-at .ensures) at (if3 .left))
-    (rw ((room-for .ensures), (word-at .ensures)) at (c .if4 .left))
+    (omega (arith, room-for .ensures, word-at .ensures, c .if4 .left))
 
 pub read-ticks-spec : {M : Type 1} → statement M
 read-ticks-spec = tie.close (tie.spec returns word-at-requires returns-2 returns-3 room-for-requires returns-4 returns-5)
