@@ -126,7 +126,10 @@ uint64_t peer_steer(uint32_t stations, uint32_t which, uint32_t calls) {
     struct ring r;
     uint64_t sum = 0;
     stand(&r, capped(stations), which);
-    for (uint32_t left = calls; left > 0; left--) sum += (uint64_t)ring_steer(&r, address);
+    for (uint32_t left = calls; left > 0; left--) {
+        const struct steering s = ring_steer(&r, address);
+        sum += (uint64_t)(s.reply < 2 ? s.reply + s.hops + s.worst + s.span : s.reply);
+    }
     return sum;
 }
 

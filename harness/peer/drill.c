@@ -6,8 +6,12 @@
 enum { QUESTION = 40, QUESTION_BYTES = 10 };
 
 static void answer(const struct ring *r, int number) {
-    if (length != QUESTION_BYTES || record[4] & 1) printf("%d 4\n", number);
-    else printf("%d way %d\n", number, ring_steer(r, ring_address(record + 4)));
+    if (length != QUESTION_BYTES || record[4] & 1) {
+        printf("%d 4\n", number);
+        return;
+    }
+    const struct steering s = ring_steer(r, ring_address(record + 4));
+    printf("%d way %d %d %d %d\n", number, s.reply, s.hops, s.worst, s.span);
 }
 
 static void take(struct ring *r, int number) {

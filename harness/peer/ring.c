@@ -350,28 +350,34 @@ int ring_record(struct ring *r, const uint8_t *record, size_t length, uint8_t *o
 
 /* The way to a station. */
 
-/* The worst request on the way to a hop of a ringlet; FS if a hop on it is not held. */
-static int worst_on_way(const struct ring *r, int ringlet, int target) {
+/* The worst request on the way to a hop of a ringlet, and the first span that has it; FS if a hop on it is not held. */
+struct walk {
+    int worst, span;
+};
+
+static struct walk walk(const struct ring *r, int ringlet, int target) {
+    const struct walk broken = {FS, 0};
     const struct station *at[FARTHEST_HOP + 1] = {NULL};
-    if (!target) return FS;
+    if (!target) return broken;
     for (int i = 0; i < r->stations; i++) at[r->station[i].hop[ringlet]] = &r->station[i];
-    int near = ring_request(r, ringlet), worst = IDLE;
+    struct walk w = {IDLE, 1};
+    int near = ring_request(r, ringlet);
     for (int hop = 1; hop <= target; hop++) {
-        if (!at[hop]) return FS;
-        int far = at[hop]->request[1 - ringlet];
-        if (near > worst) worst = near;
-        if (far > worst) worst = far;
+        if (!at[hop]) return broken;
+        int far = at[hop]->request[1 - ringlet], request = near > far ? near : far;
+        if (request > w.worst) w = (struct walk){request, hop};
         near = at[hop]->request[ringlet];
     }
-    return worst;
+    return w;
 }
 
-int ring_steer(const struct ring *r, uint64_t address) {
+struct steering ring_steer(const struct ring *r, uint64_t address) {
     int at = find(r, address);
-    if (at < 0) return NOT_IN_TABLE;
+    if (at < 0) return (struct steering){.reply = NOT_IN_TABLE};
     const uint8_t *hop = r->station[at].hop;
-    int west = worst_on_way(r, WEST, hop[WEST]), east = worst_on_way(r, EAST, hop[EAST]);
-    if (west >= SF && east >= SF) return NO_WAY;
-    if (west != east) return west < east ? WEST : EAST;
-    return hop[WEST] <= hop[EAST] ? WEST : EAST;
+    const struct walk way[2] = {walk(r, WEST, hop[WEST]), walk(r, EAST, hop[EAST])};
+    int west = way[WEST].worst, east = way[EAST].worst;
+    if (west >= SF && east >= SF) return (struct steering){.reply = NO_WAY};
+    int side = (west != east ? west < east : hop[WEST] <= hop[EAST]) ? WEST : EAST;
+    return (struct steering){side, hop[side], way[side].worst, way[side].span};
 }

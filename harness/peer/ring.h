@@ -63,6 +63,11 @@ struct shown {
     struct attributes attributes;
 };
 
+/* Of the way chosen its hops, its worst request and the first span that has it; zeros where there is none. */
+struct steering {
+    int reply, hops, worst, span;
+};
+
 /* The result is 0 or a refusal; of 31 the address is that of the first station that is behind. */
 struct free_bandwidth {
     uint64_t address;
@@ -74,7 +79,7 @@ struct free_bandwidth {
 int ring_start(struct ring *r, const uint8_t *record, size_t length);
 int ring_record(struct ring *r, const uint8_t *record, size_t length, uint8_t *out, size_t room, int *reports);
 int ring_request(const struct ring *r, int side);
-int ring_steer(const struct ring *r, uint64_t address);
+struct steering ring_steer(const struct ring *r, uint64_t address);
 struct shown ring_attributes(const struct ring *r, uint64_t address);
 struct free_bandwidth ring_free(const struct ring *r, uint32_t rate, uint16_t own0, uint16_t own1);
 uint64_t ring_address(const uint8_t *bytes);

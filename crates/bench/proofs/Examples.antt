@@ -14,13 +14,12 @@ use Rattle.blocks.specs.Meaning.{sound, known, has, behind}
 use Rattle.stations.specs.declared.station.Station.{Station}
 use Rattle.stations.specs.Table.{blank, tableOf}
 use Rattle.stations.specs.Rows.{image, tableIn}
-use Rattle.ways.specs.Choice.{number}
-use Rattle.controller.specs.Node.{Node, stateOf, startedWith, steered}
+use Rattle.controller.specs.Node.{Node, stateOf, startedWith, steering}
 use Rattle.controller.specs.Own.{ownOf}
 use Rattle.controller.specs.Record.{outcomes}
 use Rattle.bench.specs.Records.{ticks, recordOf}
 use Rattle.bench.specs.Ring.{takenIn, taken, joined, ringTo, ringOf, parted, forced}
-use Rattle.bench.specs.Runs.{told, station, addressee, standing, readied}
+use Rattle.bench.specs.Runs.{told, pointed, station, addressee, standing, readied}
 
 unfoldable pub three : Node
 unfolding ringOf ringTo joined taken startedWith settingsIn headOf broken fullIn fieldsOf inRange addressAt ownOf tableOf image tableIn ticksOf blank reportBytes outcomes
@@ -40,10 +39,10 @@ unfoldable pub results : ℕ → List ℕ
 results zero = []
 results (suc n) = told (taken (readied 3 n) (recordOf 3 n)) ∷ results n
 
--- The replies to the questions below n, the last first.
+-- What each question below n adds, the last first.
 unfoldable pub replies : ℕ → List ℕ
 replies zero = []
-replies (suc n) = number (steered (stateOf (standing 3 n)) (addressee 3 n)) ∷ replies n
+replies (suc n) = pointed (steering (stateOf (standing 3 n)) (addressee 3 n)) ∷ replies n
 
 pub three-around : hops (stateOf three .stations) ≡ 1 ∷ 3 ∷ 2 ∷ 2 ∷ 3 ∷ 1 ∷ []
 unfolding three hops
@@ -68,7 +67,7 @@ pub three-ticks : told (takenIn 7000 three (ticks 3)) ≡ 0
 unfolding three takenIn
 three-ticks = refl
 
--- No way where both spans are forced; nobody; east to the farthest on ringlet 0; west to the middle and to the nearest.
-pub three-replies : replies 5 ≡ 2 ∷ 3 ∷ 1 ∷ 0 ∷ 0 ∷ []
-unfolding three replies standing forced addressee steered
+-- No way where both spans are forced; nobody; east (1) to the farthest on ringlet 0, over 1 hop; west (0) to the middle over 2 and to the nearest over 1. All ways are idle, so that each adds span 1.
+pub three-replies : replies 5 ≡ 2 ∷ 3 ∷ 3 ∷ 3 ∷ 2 ∷ []
+unfolding three replies standing forced addressee steering
 three-replies = refl

@@ -12,10 +12,10 @@ use Rattle.controller.proofs.Ticking.{over-long}
 use Rattle.bench.specs.Ring.{takenIn}
 use Rattle.bench.specs.Runs.{told, carried}
 
--- Of so many calls some are left, and what they add is the rest. Each question adds less than 512 ..
+-- Of so many calls some are left, and what they add is the rest. Each question adds less than 1024 ..
 pub record Run (total calls left sum rest : ℕ) : Type 0 where
   pub due : total ≡ sum + rest
-  pub small : sum + 512 * left ≤ 512 * calls
+  pub small : sum + 1024 * left ≤ 1024 * calls
 
 -- .. and each record less than 2^24: a result, and 256 for each report.
 pub record Carry (total calls left sum rest : ℕ) : Type 0 where
@@ -23,7 +23,7 @@ pub record Carry (total calls left sum rest : ℕ) : Type 0 where
   pub small : sum + 16777216 * left ≤ 16777216 * calls
 
 turn : {total calls left sum rest x more : ℕ}
-    → Run total calls left sum rest → 0 < left → rest ≡ x + more → x < 512 → Run total calls (left - 1) (sum + x) more
+    → Run total calls left sum rest → 0 < left → rest ≡ x + more → x < 1024 → Run total calls (left - 1) (sum + x) more
 turn r some e h = record { due = omega (arith, r .due); small = omega (arith, r .small) }
 
 pub carry-turn : {total calls left sum rest x more : ℕ}
@@ -39,7 +39,7 @@ carry-done r e = omega (arith, r .due)
 
 -- The same number is added each time.
 pub same-turn : (x : ℕ) {total calls left sum y : ℕ}
-    → Run total calls left sum (left * x) → 0 < left → y ≡ x → y < 512 → Run total calls (left - 1) (sum + y) ((left - 1) * x)
+    → Run total calls left sum (left * x) → 0 < left → y ≡ x → y < 1024 → Run total calls (left - 1) (sum + y) ((left - 1) * x)
 same-turn x {left = zero} r some e h = absurd (omega arith)
 same-turn x {left = suc k} r some e h =
     let p : suc k - 1 ≡ k = omega arith in turn r some (rw (p, e, suc-mul k x) (omega arith)) h

@@ -3,6 +3,8 @@ use Prim.Native.Nat.{ℕ, zero, suc, _+_, _*_}
 use mathlib.Core.Bool.{cond}
 use mathlib.Core.List.{List}
 use lib.Dec.{eqb, ltb}
+use Rattle.ways.specs.declared.choice.Steering.{Steering}
+use Rattle.ways.specs.Choice.{number}
 use Rattle.controller.specs.declared.ask.Shown.{Shown}
 use Rattle.controller.specs.Node.{Node, Answer}
 use Rattle.bandwidth.specs.declared.free.Free.{Free}
@@ -17,6 +19,10 @@ told a = a .result + 256 * a .reports
 unfoldable pub carried : ℕ → List ℕ → ℕ → Node → ℕ
 carried room b zero n = 0
 carried room b (suc left) n = told (takenIn room n b) + carried room b left (takenIn room n b .node)
+
+-- The numbers of the answer to a question for a way: the reply, and where it names one its hops, worst request and span.
+abbrev pub pointed : Steering → ℕ
+pointed x = cond (ltb (number (x .reply)) 2) (number (x .reply) + x .hops + x .worst + x .span) (number (x .reply))
 
 -- The reply to a question for attributes, and the first weight.
 abbrev pub weighed : Shown → ℕ

@@ -15,12 +15,11 @@ use controller::ROW_WORDS;
 ghost use mathlib.Core.Path.{_≡_};
 ghost use Prim.Native.Nat.{_*_, _≤_};
 ghost use lib.ListN.{length};
-ghost use Rattle.ways.specs.Choice.{number};
-ghost use Rattle.controller.specs.Node.{node, stateOf, steered, asked};
+ghost use Rattle.controller.specs.Node.{node, stateOf, steering, asked};
 ghost use Rattle.bandwidth.specs.Free.{freeBandwidth};
 ghost use Rattle.bench.specs.Records.{ticks, recordOf};
 ghost use Rattle.bench.specs.Ring.{Stands, capped, ringOf};
-ghost use Rattle.bench.specs.Runs.{carried, weighed, freed, station, addressee, standing, readied};
+ghost use Rattle.bench.specs.Runs.{carried, pointed, weighed, freed, station, addressee, standing, readied};
 
 // The ring alone: how many stations are in the table.
 #[no_mangle]
@@ -115,7 +114,7 @@ fn stand(own: &mut [u64; OWN_WORDS], rows: &mut [u64; ROW_WORDS], stations: u8, 
 // 0 the nearest on ringlet 0, 1 the middle, 2 the farthest on ringlet 0, 3 nobody, any other number the middle with FS on both spans.
 #[no_mangle]
 pub extern "C" fn bench_steer(stations: u32, which: u32, calls: u32) -> u64
-    ensures { λ r. ⌜ r ≡ calls * number (steered (stateOf (standing (capped stations) which)) (addressee (capped stations) which)) ⌝ }
+    ensures { λ r. ⌜ r ≡ calls * pointed (steering (stateOf (standing (capped stations) which)) (addressee (capped stations) which)) ⌝ }
 {
     let s = capped(stations);
     let mut own = [0; OWN_WORDS];

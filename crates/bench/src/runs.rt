@@ -4,12 +4,11 @@ use controller::ROW_WORDS;
 ghost use mathlib.Core.Path.{_≡_};
 ghost use mathlib.Core.Bool.{cond};
 ghost use Prim.Native.Nat.{_+_, _*_, _^_, _<_};
-ghost use Rattle.ways.specs.Choice.{number};
 ghost use Rattle.controller.specs.Kept.{Kept};
-ghost use Rattle.controller.specs.Node.{node, stateOf, steered, asked};
+ghost use Rattle.controller.specs.Node.{node, stateOf, steering, asked};
 ghost use lib.ListN.{length};
 ghost use Rattle.bandwidth.specs.Free.{freeBandwidth};
-ghost use Rattle.bench.specs.Runs.{carried, weighed, freed};
+ghost use Rattle.bench.specs.Runs.{carried, pointed, weighed, freed};
 
 // The same record many times, each with the node that the one before left: the results, and 256 for each report that was written.
 pub(crate) fn carry(
@@ -34,18 +33,24 @@ pub(crate) fn carry(
 
 // The same address. It hangs on the sum, so that a compiler cannot ask once for all turns.
 fn still(address: u64, sum: u64) -> u64
-    requires { ⌜ sum < 2 ^ 41 ⌝ }
+    requires { ⌜ sum < 2 ^ 42 ⌝ }
     ensures { λ r. ⌜ r ≡ address ⌝ }
 {
-    address + sum / 2199023255552
+    address + sum / 4398046511104
 }
 
-// The number of the way to an address.
-fn way_number(own: &[u64; OWN_WORDS], rows: &[u64; ROW_WORDS], address: u64) -> u64
+// The numbers of the way to an address, read as a console reads them: behind the reply only where there is a way, so that what is counted is the call.
+fn way_sum(own: &[u64; OWN_WORDS], rows: &[u64; ROW_WORDS], address: u64) -> u64
     requires { ⌜ Kept (node (now own) (now rows)) ⌝ }
-    ensures { λ r. ⌜ (r ≡ number (steered (stateOf (node (now (own .entry)) (now (rows .entry)))) address)) × (r < 512) ⌝ }
+    ensures { λ r. ⌜ (r ≡ pointed (steering (stateOf (node (now (own .entry)) (now (rows .entry)))) address)) × (r < 1024) ⌝ }
 {
-    ways::number(controller::steer(own, rows, address)) as u64
+    let w = controller::steer(own, rows, address);
+    let reply = w.reply;
+    let n = ways::number(reply);
+    if n < 2 {
+        return n as u64 + w.hops as u64 + w.worst as u64 + w.span as u64;
+    }
+    n as u64
 }
 
 // The way to an address, asked many times.
@@ -56,13 +61,13 @@ pub(crate) fn steer_all(
     calls: u32,
 ) -> u64
     requires { ⌜ Kept (node (now own) (now rows)) ⌝ }
-    ensures { λ r. ⌜ r ≡ calls * number (steered (stateOf (node (now (own .entry)) (now (rows .entry)))) address) ⌝ }
+    ensures { λ r. ⌜ r ≡ calls * pointed (steering (stateOf (node (now (own .entry)) (now (rows .entry)))) address) ⌝ }
 {
     let mut left = calls;
     let mut sum: u64 = 0;
     while 0 < left {
         left -= 1;
-        sum += way_number(own, rows, still(address, sum));
+        sum += way_sum(own, rows, still(address, sum));
     }
     sum
 }
@@ -70,7 +75,7 @@ pub(crate) fn steer_all(
 // The reply and the first weight of an address.
 fn shown_sum(own: &[u64; OWN_WORDS], rows: &[u64; ROW_WORDS], address: u64) -> u64
     requires { ⌜ Kept (node (now own) (now rows)) ⌝ }
-    ensures { λ r. ⌜ (r ≡ weighed (asked (stateOf (node (now (own .entry)) (now (rows .entry)))) address)) × (r < 512) ⌝ }
+    ensures { λ r. ⌜ (r ≡ weighed (asked (stateOf (node (now (own .entry)) (now (rows .entry)))) address)) × (r < 1024) ⌝ }
 {
     let s = controller::attributes(own, rows, address);
     s.reply as u64 + s.weight0 as u64
@@ -97,7 +102,7 @@ pub(crate) fn show_all(
 
 // The result, and 256 for the defect.
 fn told(result: u8, excess: bool) -> u64
-    ensures { λ r. ⌜ (r ≡ result + cond excess 256 0) × (r < 512) ⌝ }
+    ensures { λ r. ⌜ (r ≡ result + cond excess 256 0) × (r < 1024) ⌝ }
 {
     if excess {
         return result as u64 + 256;
@@ -108,7 +113,7 @@ fn told(result: u8, excess: bool) -> u64
 // What is left of a link rate, of which the node has 1 and 2: the result, and 256 for the defect.
 fn free_sum(own: &[u64; OWN_WORDS], rows: &[u64; ROW_WORDS], rate: u32) -> u64
     requires { ⌜ Kept (node (now own) (now rows)) ⌝ }
-    ensures { λ r. ⌜ (r ≡ freed (freeBandwidth (stateOf (node (now (own .entry)) (now (rows .entry)))) rate 1 2)) × (r < 512) ⌝ }
+    ensures { λ r. ⌜ (r ≡ freed (freeBandwidth (stateOf (node (now (own .entry)) (now (rows .entry)))) rate 1 2)) × (r < 1024) ⌝ }
 {
     let x = bandwidth::free_bandwidth(own, rows, rate, 1, 2);
     told(x.result, x.excess)
@@ -116,7 +121,7 @@ fn free_sum(own: &[u64; OWN_WORDS], rows: &[u64; ROW_WORDS], rate: u32) -> u64
 
 // The same link rate, hung on the sum as the address is.
 fn same_rate(rate: u32, sum: u64) -> u32
-    requires { ⌜ sum < 2 ^ 41 ⌝ }
+    requires { ⌜ sum < 2 ^ 42 ⌝ }
     ensures { λ r. ⌜ r ≡ rate ⌝ }
 {
     still(rate as u64, sum) as u32

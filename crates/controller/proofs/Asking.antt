@@ -3,7 +3,7 @@ use Prim.Native.Nat.{ℕ, _≤_, _^_}
 use mathlib.Core.Path.{_≡_, refl, sym, _∙_, ap}
 use mathlib.Core.Bool.{true, false, true≢false}
 use mathlib.Core.List.{List, [], _∷_}
-use mathlib.Core.Logic.{⊎-elim}
+use mathlib.Core.Logic.{⊎-elim, inr}
 use mathlib.Core.Option.{none}
 use native.Mathlib.Omega.{arith}
 use borrow.Author.Tests.{ne-eqb}
@@ -12,9 +12,10 @@ use Rattle.stations.specs.declared.station.Station.{Station}
 use Rattle.stations.specs.Stations.{present, attributesOf}
 use Rattle.stations.specs.Table.{Each}
 use Rattle.stations.specs.Kept.{StationKept}
-use Rattle.ways.specs.Choice.{wayTo, number}
+use Rattle.ways.specs.Choice.{wayTo, number, numbers}
+use Rattle.ways.proofs.Telling.{nothing-told}
 use Rattle.controller.specs.State.{State}
-use Rattle.controller.specs.Node.{steered, shown, asked}
+use Rattle.controller.specs.Node.{westRequest, eastRequest, steered, steering, shown, asked}
 use Rattle.controller.specs.Kept.{StateKept}
 use Rattle.controller.specs.Strange.{Strange}
 
@@ -40,6 +41,11 @@ module _ (s : State) (k : StateKept s) (a : ℕ) (strange : Strange (s .choice .
   pub strange-way : number (steered s a) ≡ 3
   unfolding steered wayTo
   strange-way = rw (missing .0)
+
+  -- With it come zeros.
+  pub strange-told : numbers (steering s a) ≡ 3 ∷ 0 ∷ 0 ∷ 0 ∷ []
+  unfolding steered steering
+  strange-told = nothing-told (westRequest s) (eastRequest s) (s .stations) a 3 (inr refl) strange-way
 
   pub strange-attributes : asked s a ≡ shown none
   unfolding asked

@@ -11,7 +11,8 @@ use Rattle.blocks.specs.declared.attributes.Attributes.{Attributes}
 use Rattle.stations.specs.Stations.{attributesOf}
 use Rattle.stations.specs.Rows.{stationsIn, rowsOf}
 use Rattle.ways.specs.declared.choice.Reply.{Reply}
-use Rattle.ways.specs.Choice.{wayTo}
+use Rattle.ways.specs.declared.choice.Steering.{Steering}
+use Rattle.ways.specs.Choice.{wayTo, steeringTo}
 use Rattle.controller.specs.State.{State, started}
 use Rattle.controller.specs.Record.{Outcome}
 use Rattle.controller.specs.Own.{settingsOn, choiceOn, spansOn, pacerOn, ownOf}
@@ -93,6 +94,11 @@ eastRequest s = request (s .choice .ticks) (s .spans .east)
 unfoldable pub steered : State → ℕ → Reply
 unfolding wayTo westRequest eastRequest
 steered s a = wayTo (westRequest s) (eastRequest s) (s .stations) a
+
+-- 02, Item 5: the same reply, and of the way chosen its hops, its worst request and the first span that has it.
+unfoldable pub steering : State → ℕ → Steering
+unfolding steeringTo westRequest eastRequest
+steering s a = steeringTo (westRequest s) (eastRequest s) (s .stations) a
 
 -- "Attributes asked for: 0 with values, 1 behind with the type, 3 not in the table; fields not used are 0."
 abbrev pub shown : Option Attributes → Shown

@@ -7,13 +7,13 @@ use crate::own::ticks_in;
 use blocks::Attributes;
 use stations::Found;
 use stations::ROW_WORDS;
-use ways::Reply;
+use ways::Steering;
 ghost use mathlib.Core.Path.{_≡_};
 ghost use mathlib.Core.Bool.{cond};
 ghost use Rattle.controller.specs.Kept.{Kept};
 ghost use mathlib.Core.Option.{some};
 ghost use lib.ListN.{length};
-ghost use Rattle.controller.specs.Node.{node, settingsOf, stateOf, westRequest, eastRequest, steered, shown, asked};
+ghost use Rattle.controller.specs.Node.{node, settingsOf, stateOf, westRequest, eastRequest, steering, shown, asked};
 
 // The replies of `attributes`.
 const WITH_VALUES: u8 = 0;
@@ -33,10 +33,10 @@ pub struct Shown {
     pub reply: u8,
 }
 
-// The way to the station of an address; any number may be asked.
-pub fn steer(own: &[u64; OWN_WORDS], rows: &[u64; ROW_WORDS], address: u64) -> Reply
+// The way to the station of an address, and where the trouble on it is; any number may be asked.
+pub fn steer(own: &[u64; OWN_WORDS], rows: &[u64; ROW_WORDS], address: u64) -> Steering
     requires { ⌜ Kept (node (now own) (now rows)) ⌝ }
-    ensures { λ r. ⌜ r ≡ steered (stateOf (node (now (own .entry)) (now (rows .entry)))) address ⌝ }
+    ensures { λ r. ⌜ r ≡ steering (stateOf (node (now (own .entry)) (now (rows .entry)))) address ⌝ }
 {
     let t = ticks_in(own);
     let west = spans::request(span_in(own, 0), t);

@@ -45,7 +45,7 @@ worked = refl
 
 -- Questions: of a station that was heard, of one that was not, with an odd first byte, with a body of 1; then a kind that is no event.
 pub asked : output (settingsRecord ++ report 7 ++ ask 2 2 ++ ask 2 3 ++ ask 1 2 ++ (3 ∷ 0 ∷ 40 ∷ 0 ∷ 9 ∷ []) ++ (2 ∷ 0 ∷ 16 ∷ 0 ∷ []))
-    ≡ rows ("1 0 0 0 0 1 0" ∷ "2 way 0" ∷ "3 way 3" ∷ "4 4" ∷ "5 4" ∷ "6 3 0 0 0 1 0" ∷ [])
+    ≡ rows ("1 0 0 0 0 1 0" ∷ "2 way 0 1 0 1" ∷ "3 way 3 0 0 0" ∷ "4 4" ∷ "5 4" ∷ "6 3 0 0 0 1 0" ∷ [])
 unfolding output rows settingsIn headOf broken fullIn fieldsOf inRange addressAt tableOf image flat tableIn placesIn ownOf ticksOf blank reportBytes
 asked = refl
 

@@ -9,9 +9,9 @@ use lib.Dec.{eqb}
 use Rattle.wire.specs.Fields.{addressAt, oddFirst}
 use Rattle.wire.specs.Head.{kindOf, bodyOf}
 use Rattle.controller.specs.State.{State}
-use Rattle.controller.specs.Node.{Node, Answer, stateOf, answerOf, westRequest, eastRequest, steered}
+use Rattle.controller.specs.Node.{Node, Answer, stateOf, answerOf, westRequest, eastRequest, steering}
 use Rattle.controller.specs.Record.{outcomes}
-use Rattle.ways.specs.Choice.{number}
+use Rattle.ways.specs.Choice.{numbers}
 use Rattle.drill.specs.Text.{LF, space, digit, ascii, digitsOf, decimal, line, Plain, OneLine}
 use Rattle.drill.specs.Lines.{recordLine, refusedLine, wayLine, questionLine, settingsLine}
 use Rattle.drill.specs.Turns.{Step, room, stepped}
@@ -88,9 +88,9 @@ plain-settings = (
   ),
 )
 
-pub way-one : (k reply : ℕ) → OneLine (wayLine k reply)
+pub way-one : (k : ℕ) (told : List ℕ) → OneLine (wayLine k told)
 unfolding wayLine
-way-one k reply = line-is-one (decimal k ∷ ascii "way" ∷ decimal reply ∷ []) (plain-decimal k, (plain-way, (plain-decimal reply, tt)))
+way-one k told = line-is-one (decimal k ∷ ascii "way" ∷ map decimal told) (plain-decimal k, (plain-way, numbers-plain told))
 
 pub settings-one : (result : ℕ) → OneLine (settingsLine result)
 unfolding settingsLine
@@ -103,7 +103,7 @@ either false a b p q = q
 pub question-one : (k : ℕ) (s : State) (b : List ℕ) → OneLine (questionLine k s b)
 unfolding questionLine
 question-one k s b =
-    either (eqb (length b) 6 && not (oddFirst (addressAt b 0))) _ _ (way-one k (number (steered s (addressAt b 0)))) (refused-one k 4)
+    either (eqb (length b) 6 && not (oddFirst (addressAt b 0))) _ _ (way-one k (numbers (steering s (addressAt b 0)))) (refused-one k 4)
 
 -- A whole record always gives one line.
 pick : (t : Bool) (x y : Step) → OneLine (x .line) → OneLine (y .line) → OneLine (cond t x y .line)

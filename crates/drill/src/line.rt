@@ -2,9 +2,11 @@
 use controller::OWN_WORDS;
 use controller::ROW_WORDS;
 use controller::Returned;
+use ways::Steering;
 ghost use mathlib.Core.List.{[], _∷_};
 ghost use Prim.Native.Nat.{_+_, _<_, _≤_};
 ghost use lib.ListN.{length};
+ghost use Rattle.ways.specs.Choice.{numbers};
 ghost use Rattle.controller.specs.Kept.{Kept};
 ghost use Rattle.controller.specs.Node.{node, stateOf, answerIn};
 ghost use Rattle.drill.specs.Lines.{recordLine, refusedLine, wayLine, questionLine, settingsLine};
@@ -58,13 +60,17 @@ pub(crate) fn put_refused(line: &mut [u8; 147], number: u64, result: u8) -> usiz
     put_number(line, a, result as u64, b'\n')
 }
 
-// Number, the word way, reply.
-fn put_way(line: &mut [u8; 147], number: u64, reply: u8) -> usize
-    ensures { λ r. ⌜ Lined (wayLine number reply) (now (line .entry)) (now (line .exit)) r ⌝ }
+// Number, the word way, reply, and of the way chosen its hops, its worst request and the first span that has it.
+fn put_way(line: &mut [u8; 147], number: u64, way: Steering) -> usize
+    ensures { λ r. ⌜ Lined (wayLine number (numbers way)) (now (line .entry)) (now (line .exit)) r ⌝ }
 {
-    let a = put_number(line, 0, number, b' ');
-    let b = put_word(line, a, b"way ");
-    put_number(line, b, reply as u64, b'\n')
+    let reply = way.reply;
+    let at = put_number(line, 0, number, b' ');
+    let at = put_word(line, at, b"way ");
+    let at = put_number(line, at, ways::number(reply) as u64, b' ');
+    let at = put_number(line, at, way.hops as u64, b' ');
+    let at = put_number(line, at, way.worst as u64, b' ');
+    put_number(line, at, way.span as u64, b'\n')
 }
 
 // A question: the way to an address; a wrong body length or an odd first byte is 4.
@@ -86,11 +92,7 @@ pub(crate) fn put_question(
     if wire::odd_first(address) {
         return put_refused(line, number, 4);
     }
-    put_way(
-        line,
-        number,
-        ways::number(controller::steer(own, rows, address)),
-    )
+    put_way(line, number, controller::steer(own, rows, address))
 }
 
 // West request, east request, each with a space behind it.

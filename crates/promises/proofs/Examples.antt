@@ -67,7 +67,19 @@ of-requests = (
       record { taken = refl; answers = refl },
       (
         record { taken = refl; answers = refl },
-        (record { taken = refl; answers = refl }, (record { taken = refl; answers = refl }, tt)),
+        (
+          record { taken = refl; answers = refl },
+          (
+            record { taken = refl; answers = refl },
+            (
+              record { taken = refl; answers = refl },
+              (
+                record { taken = refl; answers = refl },
+                (record { taken = refl; answers = refl }, (record { taken = refl; answers = refl }, tt)),
+              ),
+            ),
+          ),
+        ),
       ),
     ),
   ),

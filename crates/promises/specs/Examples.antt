@@ -6,11 +6,11 @@ use mathlib.Core.Option.{Option, none, some}
 use lib.ListN.{length}
 use Rattle.settings.specs.Reading.{settingsIn}
 use Rattle.stations.specs.Stations.{sequenceOf}
-use Rattle.ways.specs.Choice.{number, hopOf}
+use Rattle.ways.specs.Choice.{number, numbers, hopOf}
 use Rattle.controller.specs.State.{State}
 use Rattle.controller.specs.Record.{outcomes}
 use Rattle.controller.specs.declared.ask.Shown.{Shown}
-use Rattle.controller.specs.Node.{westRequest, steered, asked}
+use Rattle.controller.specs.Node.{westRequest, steered, steering, asked}
 use Rattle.promises.specs.History.{startOf}
 
 -- Records, by their fields. An address is given by its last byte: 02-00-00-00-00-n.
@@ -54,6 +54,7 @@ pub data Question : Type 0 where
   stored : ℕ → Question
   shows : ℕ → Question
   way : ℕ → Question
+  trouble : ℕ → Question
 
 pub record Example : Type 0 where
   pub start : List ℕ
@@ -83,13 +84,14 @@ listed none = []
 listed (some n) = n ∷ []
 
 unfoldable pub answerTo : Question → State → List (List ℕ) → List ℕ
-unfolding run resultsOf westRequest hopOf sequenceOf asked steered
+unfolding run resultsOf westRequest hopOf sequenceOf asked steered steering
 answerTo results s l = resultsOf s l
 answerTo west s l = westRequest (run s l) ∷ []
 answerTo (hop ringlet n) s l = hopOf ringlet (station n) (run s l .stations) ∷ []
 answerTo (stored n) s l = listed (sequenceOf (station n) (run s l .stations))
 answerTo (shows n) s l = shownAs (asked (run s l) (station n))
 answerTo (way n) s l = number (steered (run s l) (station n)) ∷ []
+answerTo (trouble n) s l = numbers (steering (run s l) (station n))
 
 unfoldable pub answersTo : List Question → State → List (List ℕ) → List ℕ
 unfolding answerTo
@@ -222,6 +224,22 @@ Swing-many = drill 3 (link 0 2 ∷ many 20 ∷ link 0 1 ∷ many 9 ∷ []) (resu
 abbrev pub Swing-many-after : Example
 Swing-many-after = drill 3 (link 0 2 ∷ many 20 ∷ link 0 1 ∷ many 10 ∷ []) (results ∷ west ∷ []) (0 ∷ 0 ∷ 0 ∷ 0 ∷ 3 ∷ [])
 
+-- 02, Item 5: P11 and P12 with hops, worst request and the first span that has it: no trouble on the way chosen.
+abbrev pub P11-told : Example
+P11-told = drill 0 (ring 0) (trouble 3 ∷ []) (0 ∷ 2 ∷ 0 ∷ 1 ∷ [])
+
+abbrev pub P12-told : Example
+P12-told = drill 0 (ring 3) (trouble 3 ∷ []) (1 ∷ 2 ∷ 0 ∷ 1 ∷ [])
+
+-- East fails, so that the way is west, with SD between 2 and 3, its second span ..
+abbrev pub Second-span : Example
+Second-span = drill 0 (ring 3 ++ (link 1 2 ∷ [])) (trouble 3 ∷ []) (0 ∷ 2 ∷ 3 ∷ 2 ∷ [])
+
+-- .. and then with SD on the own span too, the first of the two.
+abbrev pub First-of-two : Example
+First-of-two = drill 0 (ring 3 ++ (link 1 2 ∷ link 0 1 ∷ [])) (trouble 3 ∷ []) (0 ∷ 2 ∷ 3 ∷ 1 ∷ [])
+
 -- The examples that the requests of 02 bring with them.
 abbrev pub requested : List Example
-requested = Swing ∷ Swing-after ∷ P6-many ∷ P6-many-after ∷ Swing-many ∷ Swing-many-after ∷ []
+requested =
+    Swing ∷ Swing-after ∷ P6-many ∷ P6-many-after ∷ Swing-many ∷ Swing-many-after ∷ P11-told ∷ P12-told ∷ Second-span ∷ First-of-two ∷ []

@@ -9,11 +9,11 @@ use Rattle.wire.specs.Fields.{Bytes}
 use Rattle.wire.specs.Head.{bodyOf}
 use Rattle.wire.specs.Report.{over}
 use Rattle.settings.specs.Reading.{settingsIn}
-use Rattle.ways.specs.Choice.{number}
+use Rattle.ways.specs.Choice.{numbers}
 use Rattle.controller.specs.State.{State, started}
 use Rattle.controller.specs.Reading.{countIn, manyTicks}
 use Rattle.controller.specs.Record.{Outcome, outcome, outcomes}
-use Rattle.controller.specs.Node.{Node, Started, Answer, choiceOf, stateOf, nodeOf, reportsIn, westRequest, eastRequest, steered, asked}
+use Rattle.controller.specs.Node.{Node, Started, Answer, choiceOf, stateOf, nodeOf, reportsIn, westRequest, eastRequest, steering, asked}
 use Rattle.controller.specs.Kept.{Kept}
 use Rattle.controller.specs.Promise.{Recorded}
 
@@ -107,7 +107,7 @@ pub record Ruled (b : List ℕ) (n : Node) (s : State) : Type 0 where
   pub east : eastRequest (stateOf n) ≡ eastRequest s
   pub stations : stateOf n .stations ≡ s .stations
   pub sequence : stateOf n .pacer .sequence ≡ s .pacer .sequence
-  pub ways : (a : ℕ) → number (steered (stateOf n) a) ≡ number (steered s a)
+  pub ways : (a : ℕ) → numbers (steering (stateOf n) a) ≡ numbers (steering s a)
   pub attributes : (a : ℕ) → asked (stateOf n) a ≡ asked s a
 
 -- A call was answered as the rules answer it: the result, the number of reports, and the whole buffer.

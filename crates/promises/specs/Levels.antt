@@ -16,13 +16,13 @@ use Rattle.blocks.specs.Attributes.{absent, behindWith, attributesFrom}
 use Rattle.stations.specs.declared.station.Station.{Station}
 use Rattle.stations.specs.Station.{withAttributes}
 use Rattle.stations.specs.Stations.{present}
-use Rattle.ways.specs.Choice.{number}
+use Rattle.ways.specs.Choice.{numbers}
 use Rattle.controller.specs.declared.reading.Reading.{Reading}
 use Rattle.controller.specs.declared.reading.Reading.the-variants.{Refused, Tick, Link, Keepalive, Operator, Heard, Block}
 use Rattle.controller.specs.Reading.{blockOf, reading}
 use Rattle.controller.specs.State.{Choice, State}
 use Rattle.controller.specs.declared.ask.Shown.{Shown}
-use Rattle.controller.specs.Node.{reportsIn, westRequest, eastRequest, steered, shown, asked}
+use Rattle.controller.specs.Node.{reportsIn, westRequest, eastRequest, steering, shown, asked}
 use Rattle.controller.specs.Record.{Outcome}
 use Rattle.promises.specs.History.{Call, after, answered, Made}
 
@@ -116,7 +116,7 @@ pub record Levelled (K : List ℕ) (late : ℕ → Option (List ℕ)) (x s : Sta
   pub west : westRequest x ≡ westRequest s
   pub east : eastRequest x ≡ eastRequest s
   pub pacer : x .pacer ≡ s .pacer
-  pub steering : (a : ℕ) → number (steered x a) ≡ number (steered s a)
+  pub steering : (a : ℕ) → numbers (steering x a) ≡ numbers (steering s a)
   -- "It says so exactly when there is such a block and it has such a type."
   pub behind : (a t : ℕ) → (asked x a ≡ saysBehind t) ↔ ((b : List ℕ) × (late a ≡ some b) × FirstUnknown K b t)
   -- "For each station the smaller shows, for every type that it knows, the value the larger shows; or it says "behind", with" a type, and nothing else.

@@ -1,16 +1,17 @@
 -- What was last known of a station's requests, on the history, and the spans of a way.
-use Prim.Native.Nat.{ℕ, zero, suc, _<_}
+use Prim.Native.Nat.{ℕ, zero, suc, _<_, _≤_}
 use mathlib.Core.Path.{_≡_}
 use mathlib.Core.Bool.{Bool, true, not, cond, _&&_}
 use mathlib.Core.List.{List, [], _∷_}
 use mathlib.Core.Option.{Option, none, some}
 use lib.Dec.{eqb}
-use Rattle.spans.specs.Codes.{SF}
+use Rattle.spans.specs.Codes.{SF, higher}
 use Rattle.stations.specs.declared.station.Station.{Station}
 use Rattle.stations.specs.Stations.{present, sequenceOf}
 use Rattle.stations.specs.Hearing.{distance}
 use Rattle.ways.specs.Walk.{Ends, near, far}
 use Rattle.ways.specs.Choice.{hopOf}
+use Rattle.ways.specs.declared.choice.Steering.{Steering}
 use Rattle.controller.specs.declared.reading.Reading.{Reading}
 use Rattle.controller.specs.declared.reading.Reading.the-variants.{Refused, Tick, Link, Keepalive, Operator, Heard, Block}
 use Rattle.controller.specs.Reading.{reading}
@@ -63,6 +64,25 @@ Leaves told ringlet own l (suc j) x = (e : Ends) × StandsAt told ringlet (suc j
 -- .. and the next station is met at the request y.
 abbrev pub Meets : (ℕ → Option Ends) → ℕ → List Station → ℕ → ℕ → Type 0
 Meets told ringlet l j y = (e : Ends) × StandsAt told ringlet (suc j) l e × (y ≡ near ringlet e)
+
+-- The request on the span beyond hop j is x, the higher of its two ends'.
+pub record Requested (told : ℕ → Option Ends) (ringlet own : ℕ) (l : List Station) (j x : ℕ) : Type 0 where
+  pub from : ℕ
+  pub to : ℕ
+  pub leaves : Leaves told ringlet own l j from
+  pub meets : Meets told ringlet l j to
+  pub is : x ≡ higher from to
+
+-- What is told of a way that is answered: the station's hop there; a request that the span beyond `before` hops has, every span before it a lower one, and no span on the way a
+-- higher one; and the number of that span, counted from 1.
+pub record Points (told : ℕ → Option Ends) (ringlet own : ℕ) (l : List Station) (a : ℕ) (x : Steering) : Type 0 where
+  pub hops : x .hops ≡ hopOf ringlet a l
+  pub before : ℕ
+  pub span : x .span ≡ suc before
+  pub on-the-way : before < x .hops
+  pub has : Requested told ringlet own l before (x .worst)
+  pub lower : (j : ℕ) → j < before → (y : ℕ) × Requested told ringlet own l j y × (y < x .worst)
+  pub highest : (j : ℕ) → j < x .hops → (y : ℕ) × Requested told ringlet own l j y × (y ≤ x .worst)
 
 -- Neither end of the span beyond hop j requests SF or FS, the two codes from SF on.
 pub record Clear (told : ℕ → Option Ends) (ringlet own : ℕ) (l : List Station) (j : ℕ) : Type 0 where

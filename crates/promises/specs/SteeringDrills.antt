@@ -1,12 +1,12 @@
 -- Histories of node 1 in which stations say what they request.
 use Prim.Native.Nat.{ℕ}
-use mathlib.Core.List.{List, [], _∷_}
+use mathlib.Core.List.{List, [], _∷_, _++_}
 use Rattle.spans.specs.Codes.{IDLE, SD, SF}
 use Rattle.ways.specs.Walk.{Ends}
 use Rattle.controller.specs.State.{Choice, State, started}
 use Rattle.promises.specs.History.{after}
 use Rattle.promises.specs.Drilled.{callsFor}
-use Rattle.promises.specs.Examples.{station, link, report}
+use Rattle.promises.specs.Examples.{station, link, report, ring}
 
 -- Node 1 of the examples, in ticks.
 abbrev pub one : Choice
@@ -37,3 +37,7 @@ rejoining = report 0 255 2 1 SD IDLE ∷ link 0 2 ∷ link 0 0 ∷ report 0 255 
 -- Stations 2 and 3 are heard in the west alone. There is a way to 3 while it is idle, and none once it requests SF at its end of the second span.
 abbrev pub westward : ℕ → List (List ℕ)
 westward requested = report 0 255 2 1 IDLE IDLE ∷ report 0 254 3 1 IDLE requested ∷ []
+
+-- P12's ring, and east fails: the way to 3 is west, over SD between 2 and 3.
+abbrev pub troubled : List (List ℕ)
+troubled = ring SD ++ (link 1 2 ∷ [])

@@ -4,4 +4,6 @@ pub mod Sides
 pub mod Replies
 pub mod Choosing
 pub mod Opening
+pub mod Telling
+pub mod Before
 pub mod Examples

@@ -6,8 +6,8 @@ use stations::Found;
 use stations::ROW_WORDS;
 ghost use mathlib.Core.Path.{_≡_};
 ghost use Rattle.stations.specs.Rows.{RowsKept, stationsIn};
-ghost use Rattle.ways.specs.Choice.{way, wayTo, number};
-ghost use Rattle.ways.specs.Steps.{sideOf, betterOf, choiceOf};
+ghost use Rattle.ways.specs.Choice.{way, steeringTo, number};
+ghost use Rattle.ways.specs.Steps.{sideOf, betterOf, choiceOf, toldOf, steeringOf};
 
 pub enum Reply {
     West,
@@ -16,10 +16,18 @@ pub enum Reply {
     Unknown,
 }
 
-// One direction: not usable, or its worst request and its hops.
+// The reply, and of the way chosen its hops, its worst request and the first span that has it; zeros where none is chosen.
+pub struct Steering {
+    pub reply: Reply,
+    pub hops: u8,
+    pub worst: u8,
+    pub span: u8,
+}
+
+// One direction: not usable, or its worst request, its hops and the first span that has that request.
 pub enum Side {
     Closed,
-    Open { worst: u8, hops: u8 },
+    Open { worst: u8, hops: u8, span: u8 },
 }
 
 // One direction to a station at hop h of its ringlet; the index is room for the walk.
@@ -33,9 +41,13 @@ fn look(index: &mut [u8; 256], rows: &[u64; ROW_WORDS], ringlet: u8, own: u8, h:
     let w = walk_to(index, rows, ringlet, own, h);
     match w {
         Walked::Broken => Side::Closed,
-        Walked::Worst(worst) => {
+        Walked::Worst { worst, span } => {
             if worst < SF {
-                return Side::Open { worst, hops: h };
+                return Side::Open {
+                    worst,
+                    hops: h,
+                    span,
+                };
             }
             Side::Closed
         }
@@ -64,33 +76,74 @@ fn choose(west: Side, east: Side) -> Reply
     match west {
         Side::Closed => match east {
             Side::Closed => Reply::NoWay,
-            Side::Open { worst: _, hops: _ } => Reply::East,
+            Side::Open {
+                worst: _,
+                hops: _,
+                span: _,
+            } => Reply::East,
         },
-        Side::Open { worst, hops } => match east {
+        Side::Open {
+            worst,
+            hops,
+            span: _,
+        } => match east {
             Side::Closed => Reply::West,
             Side::Open {
                 worst: other,
                 hops: others,
+                span: _,
             } => better(worst, hops, other, others),
         },
     }
 }
 
-// The way to the station of an address, from the own requests west and east.
-pub fn way_to(rows: &[u64; ROW_WORDS], west: u8, east: u8, address: u64) -> Reply
+// What is told of a direction.
+fn tell(reply: Reply, side: Side) -> Steering
+    ensures { λ r. ⌜ r ≡ toldOf reply side ⌝ }
+{
+    match side {
+        Side::Closed => Steering {
+            reply,
+            hops: 0,
+            worst: 0,
+            span: 0,
+        },
+        Side::Open { worst, hops, span } => Steering {
+            reply,
+            hops,
+            worst,
+            span,
+        },
+    }
+}
+
+// What is told of the direction that a reply names.
+fn pass_on(reply: Reply, west: Side, east: Side) -> Steering
+    ensures { λ r. ⌜ r ≡ steeringOf reply west east ⌝ }
+{
+    match reply {
+        Reply::West => tell(Reply::West, west),
+        Reply::East => tell(Reply::East, east),
+        Reply::NoWay => tell(Reply::NoWay, Side::Closed),
+        Reply::Unknown => tell(Reply::Unknown, Side::Closed),
+    }
+}
+
+// The way to the station of an address, from the own requests west and east, and where the trouble on it is.
+pub fn way_to(rows: &[u64; ROW_WORDS], west: u8, east: u8, address: u64) -> Steering
     requires { ⌜ RowsKept (now rows) ⌝ }
-    ensures { λ r. ⌜ r ≡ wayTo west east (stationsIn (now (rows .entry))) address ⌝ }
+    ensures { λ r. ⌜ r ≡ steeringTo west east (stationsIn (now (rows .entry))) address ⌝ }
 {
     let f = stations::find_station(rows, address);
     match f {
-        Found::Nothing => Reply::Unknown,
+        Found::Nothing => tell(Reply::Unknown, Side::Closed),
         Found::At(at) => {
             let hop0 = stations::hop_at(rows, at, 0);
             let hop1 = stations::hop_at(rows, at, 1);
             let mut index = [255u8; 256];
             let west_side = look(&mut index, rows, 0, west, hop0);
             let east_side = look(&mut index, rows, 1, east, hop1);
-            choose(west_side, east_side)
+            pass_on(choose(west_side, east_side), west_side, east_side)
         }
     }
 }

@@ -12,11 +12,13 @@ use crate::chance::Chance;
 use crate::maker::Maker;
 use crate::many;
 use crate::opening::{self, Opening};
+use crate::reach;
 use crate::scenes;
 use crate::script::{end, Script};
 use crate::subject::{right, Subject};
-use crate::swings::{self, ENDED, RAN_ON};
+use crate::swings::{ENDED, RAN_ON};
 use crate::tally::{Tally, OTHER};
+use crate::ways;
 use crate::wild;
 
 /// The drill program on drills.
@@ -53,12 +55,13 @@ impl Subject for Drills {
     }
 
     fn nothing(&self) -> Tally {
-        Tally::new(self.word(), &[&LABELS[..], &many::LABELS].concat())
+        let labels = [&LABELS[..], &ways::LABELS, &many::LABELS];
+        Tally::new(self.word(), &labels.concat())
     }
 
     fn count(&self, input: &[u8], said: &[u8]) -> Tally {
         let mut tally = tally(said);
-        swings::count(input, &mut tally);
+        reach::count(input, &mut tally);
         tally
     }
 
@@ -118,7 +121,7 @@ fn play(mut chance: Chance, budget: usize, settings: Option<Bytes>) -> Script {
     Script::made(maker, settings)
 }
 
-/// What is counted beside kind 7: results of full lines, replies, refused settings, ends, and more.
+/// What is counted beside kind 7 and the numbers of a way: results of full lines, replies, refused settings, ends, and more.
 const LABELS: [&str; 24] = [
     "result 0",
     "result 3",
@@ -160,7 +163,7 @@ fn tally(said: &[u8]) -> Tally {
             ["settings", refusal] => tally.count(&format!("settings {refusal}")),
             [_, "2"] => tally.count(END),
             [_, "4"] => tally.count(REFUSED_QUESTION),
-            [_, "way", reply] => tally.count(&format!("way {reply}")),
+            [_, "way", reply, _, _, _] => tally.count(&format!("way {reply}")),
             [_, result, _, _, _, _, reports] => {
                 tally.count(&format!("result {result}"));
                 for _ in 0..reports.parse().unwrap_or(0) {
@@ -285,13 +288,39 @@ mod tests {
         assert!(drills > 40, "{drills} of 200");
     }
 
-    #[test]
-    fn many_drills_reach_kind_7_in_places_of_every_sort() {
+    /// What the first 200 drills reach.
+    fn reached() -> Tally {
         let mut sum = Drills.nothing();
         for seed in 1..=200 {
             let bytes = drill(seed).bytes();
             sum.add(&Drills.count(&bytes, &say::<RIGHT>(&bytes)));
         }
+        sum
+    }
+
+    #[test]
+    fn ways_are_long_and_short_and_have_trouble_everywhere() {
+        let sum = reached();
+        let least = [
+            (ways::ABOVE_IDLE, 5_000),
+            (ways::FIRST, 1_000),
+            (ways::MIDDLE, 1_000),
+            (ways::LAST, 1_000),
+            (ways::SEVERAL, 1_000),
+            (ways::BEYOND, 1_000),
+            (ways::OTHER, 1_000),
+            (ways::LONG, 300),
+            (ways::LONGEST, 50),
+            (ways::UNUSABLE, 1_000),
+        ];
+        for (label, least) in least {
+            assert!(sum.of(label) > least, "{label}: {}", sum.of(label));
+        }
+    }
+
+    #[test]
+    fn many_drills_reach_kind_7_in_places_of_every_sort() {
+        let sum = reached();
         let least = [
             (many::INPUTS, 150),
             (many::TAKEN, 2_000),
@@ -307,7 +336,7 @@ mod tests {
 
     #[test]
     fn each_sort_of_line_has_its_count() {
-        let said = b"1 0 4 0 1 0 5\n2 way 3\n3 4\n4 22 0 0 1 0 1\n5 2\n";
+        let said = b"1 0 4 0 1 0 5\n2 way 3 0 0 0\n3 4\n4 22 0 0 1 0 1\n5 2\n";
         let mut sum = tally(said);
         sum.add(&tally(b"settings 4\n"));
         sum.add(&tally(b"1 1 0 0 0 0 0\nwhat\n"));

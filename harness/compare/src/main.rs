@@ -15,6 +15,7 @@ mod options;
 mod owed;
 mod plans;
 mod probe;
+mod reach;
 mod ring;
 mod scenes;
 mod script;
@@ -23,7 +24,9 @@ mod shorten;
 mod subject;
 mod swings;
 mod tally;
+mod trouble;
 mod voice;
+mod ways;
 mod wild;
 
 use std::env;

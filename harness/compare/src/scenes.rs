@@ -8,13 +8,14 @@ use crate::chance::Chance;
 use crate::maker::{Maker, NONE_DEAF};
 use crate::owed;
 use crate::ring::{self, LARGEST};
+use crate::trouble;
 use crate::wild;
 
 /// A scene gives its records to the maker.
 pub type Scene = fn(&mut Maker);
 
 /// Scenes and how often each comes.
-const SCENES: [(usize, Scene); 20] = [
+const SCENES: [(usize, Scene); 21] = [
     (8, learn),
     (10, quarrel),
     (7, displace),
@@ -30,6 +31,7 @@ const SCENES: [(usize, Scene); 20] = [
     (6, dirty),
     (2, wrap),
     (7, owed::spell),
+    (7, trouble::along),
     (7, block_round),
     (6, wild::refusals),
     (6, wild::mixture),

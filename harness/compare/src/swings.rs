@@ -1,9 +1,7 @@
 //! Where a drill reaches the rule that hold-off runs on: a link record changes the stored status, and the time left stays.
 
-use model::{Node, Status};
-use text::pieces::pieces;
+use model::Status;
 
-use crate::many::Counter;
 use crate::tally::Tally;
 
 /// A link record changed a status that waits for the end of hold-off, and the time ran on.
@@ -12,23 +10,19 @@ pub const RAN_ON: &str = "status changed, hold-off ran on";
 pub const ENDED: &str = "hold-off ended after such a change";
 
 /// The stored status of a link and the hold-off ticks left.
-type Link = (Status, u32);
+pub type Link = (Status, u32);
 
-/// Counts what happened on the links of a drill, and its records of kind 7.
-pub fn count(input: &[u8], tally: &mut Tally) {
-    let pieces = pieces(input);
-    let settings = pieces.first().copied().unwrap_or_default();
-    let (result, mut node) = Node::start(settings);
-    if result != 0 {
-        return;
-    }
-    let mut swung = [false; 2];
-    let mut counter = Counter::default();
-    for record in &pieces[1..] {
-        let before = node.links();
-        counter.give(&mut node, record, tally);
-        let after = node.links();
-        for (span, swung) in swung.iter_mut().enumerate() {
+/// The links of a drill, counted from record to record.
+#[derive(Default)]
+pub struct Counter {
+    /// For each link, whether the running hold-off had a change.
+    swung: [bool; 2],
+}
+
+impl Counter {
+    /// Counts what a record did on the links.
+    pub fn see(&mut self, before: [Link; 2], after: [Link; 2], tally: &mut Tally) {
+        for (span, swung) in self.swung.iter_mut().enumerate() {
             count_one(before[span], after[span], swung, tally);
         }
     }
@@ -55,11 +49,12 @@ mod tests {
     use text::reading::Text;
 
     use super::*;
+    use crate::reach;
 
     fn counted(source: &str) -> (u64, u64) {
         let mut tally = Tally::new("drill", &[RAN_ON, ENDED]);
         let text = Text::read(source.as_bytes()).unwrap();
-        count(&text.bytes(), &mut tally);
+        reach::count(&text.bytes(), &mut tally);
         (tally.of(RAN_ON), tally.of(ENDED))
     }
 

@@ -7,6 +7,7 @@ pub const RIGHT: u8 = 0;
 macro_rules! faults {
     (
         drill { $($name:ident, $short:literal, $what:literal;)* }
+        telling { $($told_name:ident, $told_short:literal, $told_what:literal;)* }
         planner { $($own_name:ident, $own_short:literal, $own_what:literal;)* }
     ) => {
         /// One deliberate error. The numbers start after `RIGHT`.
@@ -16,12 +17,13 @@ macro_rules! faults {
             /// Number 0 is the right model, so that no fault has it.
             Nothing = RIGHT,
             $(#[doc = $what] $name,)*
+            $(#[doc = $told_what] $told_name,)*
             $(#[doc = $own_what] $own_name,)*
         }
 
         impl Fault {
             /// The faults that a drill shows.
-            pub const OF_DRILL: &'static [Fault] = &[$(Fault::$name),*];
+            pub const OF_DRILL: &'static [Fault] = &[$(Fault::$name,)* $(Fault::$told_name,)*];
             /// The faults that only a plan shows.
             pub const OF_PLANNER: &'static [Fault] = &[$(Fault::$own_name),*];
 
@@ -30,6 +32,7 @@ macro_rules! faults {
                 match self {
                     Fault::Nothing => ("nothing", "the right model"),
                     $(Fault::$name => ($short, $what),)*
+                    $(Fault::$told_name => ($told_short, $told_what),)*
                     $(Fault::$own_name => ($own_short, $own_what),)*
                 }
             }
@@ -39,6 +42,7 @@ macro_rules! faults {
                 match self {
                     Fault::Nothing => crate::drill::say::<RIGHT>,
                     $(Fault::$name => crate::drill::say::<{ Fault::$name as u8 }>,)*
+                    $(Fault::$told_name => crate::drill::tell::<{ Fault::$told_name as u8 }>,)*
                     // No drill shows these.
                     $(Fault::$own_name)|* => crate::drill::say::<RIGHT>,
                 }
@@ -49,6 +53,8 @@ macro_rules! faults {
                 match self {
                     Fault::Nothing => crate::planner::say::<RIGHT>,
                     $(Fault::$name => crate::planner::say::<{ Fault::$name as u8 }>,)*
+                    // The planner is told of no way.
+                    $(Fault::$told_name)|* => crate::planner::say::<RIGHT>,
                     $(Fault::$own_name => crate::planner::say::<{ Fault::$own_name as u8 }>,)*
                 }
             }
@@ -106,6 +112,7 @@ faults! {
         HopsIgnored, "hops-ignored", "of equal requests west, whatever the hops";
         TieEast, "tie-east", "a tie goes east";
         GapsAllowed, "gaps-allowed", "a lower hop that is not held does not matter";
+        SpanBreaksTie, "span-breaks-tie", "of equal requests and hops the way with the nearer span";
         ClosedOnce, "closed-once", "kind 7: closing steps once, behind the last tick";
         PacedOnce, "paced-once", "kind 7: the report's step once, behind the last tick";
         PacedAfterwards, "paced-afterwards", "kind 7: reports paced when all ticks have passed, with the last pair";
@@ -128,6 +135,47 @@ faults! {
         Kind7Unknown, "kind-7-unknown", "kind 7 refused with 3";
         Kind8Taken, "kind-8-taken", "kind 8 taken as kind 7";
         RoomOfOne, "room-of-one", "the drill has room for one report, so that most counts are refused with 1";
+    }
+    telling {
+        LastSpanTold, "last-span-told", "the last span with the worst request told";
+        SpansFrom0, "spans-from-0", "spans counted from 0";
+        SpansFromTarget, "spans-from-target", "spans counted from the target";
+        EastFromTarget, "east-from-target", "spans of the way east counted from the target";
+        SpanOfStation, "span-of-station", "the hop of the station told that has the worst request";
+        FirstTroubleTold, "first-trouble-told", "the first span with any request told";
+        SpansCounted, "spans-counted", "how many spans have the worst request told";
+        IdleSpan0, "idle-span-0", "span 0 told where all is IDLE";
+        SpanInFiveBits, "span-in-five-bits", "the span told in five bits";
+        NearEndsTold, "near-ends-told", "the worst of the nearer ends told";
+        FarEndsTold, "far-ends-told", "the worst of the ends that face us told";
+        LowerEndsTold, "lower-ends-told", "the lower of the two ends of a span told";
+        NearEndKeepsSpan, "near-end-keeps-span", "a worse request at the nearer end leaves the span told as it was";
+        FarEndKeepsSpan, "far-end-keeps-span", "a worse request at the end that faces us leaves the span told as it was";
+        OwnEndUntold, "own-end-untold", "the own request left out of what is told";
+        OwnEndsSwapped, "own-ends-swapped", "the own request of the other span told";
+        EastNotMirrored, "east-not-mirrored", "on the way east, west and east of the stations swapped in what is told";
+        TargetFarEndTold, "target-far-end-told", "the far end of the target told as one more span";
+        BeyondTargetTold, "beyond-target-told", "worse requests beyond the target told";
+        LastSpanUntold, "last-span-untold", "the last span left out of what is told";
+        Span63Untold, "span-63-untold", "span 63 left out of what is told";
+        WtrUntold, "wtr-untold", "WTR told as IDLE";
+        HopsOneFewer, "hops-one-fewer", "one hop too few told";
+        HopsOneMore, "hops-one-more", "one hop too many told";
+        HopsOfRun, "hops-of-run", "all hops told that are held without a gap, beyond the target too";
+        HopsOfRinglet0, "hops-of-ringlet-0", "the hop on ringlet 0 told for both ways";
+        HopsInFiveBits, "hops-in-five-bits", "the hop count told in five bits";
+        OtherWayTold, "other-way-told", "both usable: the numbers of the way not chosen told";
+        WestTold, "west-told", "the numbers of the way west told for the way east, if there is one";
+        WorstOfBoth, "worst-of-both", "the worst request of both ways told";
+        UnusableTold, "unusable-told", "no way: the numbers of one that is not usable told";
+        HopsWithoutWay, "hops-without-way", "no way: a hop count told";
+        SfWithoutWay, "sf-without-way", "no way: SF told as worst request";
+        Span1WithoutWay, "span-1-without-way", "no way: span 1 told";
+        NumbersStay, "numbers-stay", "no way: the numbers of the way before told";
+        NoZeros, "no-zeros", "no way: a line without numbers";
+        WorstToldFirst, "worst-told-first", "the worst request told before the hop count";
+        SpanToldSecond, "span-told-second", "the span told before the worst request";
+        ZerosBehind4, "zeros-behind-4", "a bad question: zeros told behind the 4";
     }
     planner {
         CountedPerRinglet, "counted-per-ringlet", "a station counted once for each ringlet that it is heard on";

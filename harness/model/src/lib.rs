@@ -16,6 +16,7 @@ mod records;
 mod settings;
 mod spans;
 mod stations;
+mod telling;
 mod ways;
 
 pub use bandwidth::Free;
@@ -23,3 +24,4 @@ pub use blocks::{write_block, Values};
 pub use node::{Node, NodeOf, Shown};
 pub use records::OUTPUT_ROOM;
 pub use spans::Status;
+pub use ways::Way;

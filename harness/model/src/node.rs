@@ -11,7 +11,8 @@ use crate::records::{self, Event, Report, REPORT_BYTES};
 use crate::settings::Settings;
 use crate::spans::{Request, Span, Status};
 use crate::stations::Table;
-use crate::ways;
+use crate::telling;
+use crate::ways::{self, Way};
 
 /// The right model.
 pub type Node = NodeOf<RIGHT>;
@@ -220,9 +221,15 @@ impl<const F: u8> NodeOf<F> {
         [west.request(&self.settings), east.request(&self.settings)]
     }
 
-    /// Which way to a station: 0 west, 1 east, 2 no way, 3 not in the table.
-    pub fn steer(&self, address: u64) -> u8 {
+    /// Which way to a station, and where the trouble is on it.
+    pub fn steer(&self, address: u64) -> Way {
         ways::steer::<F>(&self.table, self.own_pair(), address)
+    }
+
+    /// The same as the drill program tells it; `T` is the fault switch for this alone.
+    pub(crate) fn told<const T: u8>(&self, address: u64) -> Way {
+        let way = self.steer(address);
+        telling::told::<T>(way, &self.table, self.own_pair(), address)
     }
 
     /// The attributes of a station.
@@ -282,5 +289,11 @@ impl<const F: u8> NodeOf<F> {
         stations
             .map(|station| (station.address, station.hops))
             .collect()
+    }
+
+    /// The request on each span west and east, span 1 first, as far as every hop is held.
+    pub fn runs(&self) -> [Vec<u8>; 2] {
+        let codes = |run: Vec<Request>| run.iter().map(|&request| request as u8).collect();
+        ways::runs(&self.table, self.own_pair()).map(codes)
     }
 }

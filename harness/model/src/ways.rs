@@ -1,7 +1,8 @@
 //! The way to a station: a walk along each ringlet, and the choice between the two.
 //! A walk needs every hop up to the station; the worst request on it must be below SF.
+//! Of the way chosen the operator is told how long it is, and where the trouble is.
 
-use crate::faults::{wrong, Fault};
+use crate::faults::{wrong, Fault, RIGHT};
 use crate::records::HIGHEST_HOP;
 use crate::spans::Request;
 use crate::stations::{Station, Table};
@@ -15,73 +16,134 @@ pub const NO_WAY: u8 = 2;
 /// Not in the table; so too for the own address or an odd one.
 pub const NOT_IN_TABLE: u8 = 3;
 
+/// The answer to "which way?". The three numbers are those of the way chosen, and zeros where there is none.
+#[derive(Clone, Copy, Debug, Default, PartialEq, Eq)]
+pub struct Way {
+    /// 0 west, 1 east, 2 no way, 3 not in the table.
+    pub reply: u8,
+    /// Its hop count.
+    pub hops: u8,
+    /// Its worst request.
+    pub worst: u8,
+    /// The number of the first span along it that has this request; span 1 touches us.
+    pub span: u8,
+}
+
+/// What the walk along a way gives.
+#[derive(Clone, Copy, Debug, PartialEq, Eq)]
+pub struct Walk {
+    /// Its hop count.
+    pub hops: u8,
+    /// Its worst request.
+    pub worst: Request,
+    /// The number of the first span along it that has this request.
+    pub span: u8,
+}
+
 /// The stations of one ringlet by hop.
 type Chain<'a> = [Option<&'a Station>; HIGHEST_HOP as usize + 1];
 
-/// The reply to "which way?", given the own west and east request.
-pub fn steer<const F: u8>(table: &Table, own: [Request; 2], address: u64) -> u8 {
+/// The requests at the two ends of a span: the end nearer to us, and that of the next station, which faces us.
+pub type Ends = [Request; 2];
+
+/// The answer to "which way?", given the own west and east request.
+pub fn steer<const F: u8>(table: &Table, own: [Request; 2], address: u64) -> Way {
     let Some(target) = table.find(address) else {
-        return NOT_IN_TABLE;
+        return Way::none(NOT_IN_TABLE);
     };
-    let west = walk::<F>(table, 0, own[0], target);
-    let east = walk::<F>(table, 1, own[1], target);
-    match (west, east) {
-        (None, None) => NO_WAY,
-        (Some(_), None) => WEST,
-        (None, Some(_)) => EAST,
-        (Some(west), Some(east)) => choose::<F>(west, east, target.hops),
+    let walk = |ringlet| walk::<F>(table, own, ringlet, target);
+    let usable = |walk: &Walk| walk.worst < Request::Sf;
+    match (walk(0).filter(usable), walk(1).filter(usable)) {
+        (None, None) => Way::none(NO_WAY),
+        (Some(west), None) => west.chosen(WEST),
+        (None, Some(east)) => east.chosen(EAST),
+        (Some(west), Some(east)) if is_west::<F>(&west, &east) => west.chosen(WEST),
+        (Some(_), Some(east)) => east.chosen(EAST),
     }
 }
 
 /// Both are usable: the lower request, then fewer hops, then west.
-fn choose<const F: u8>(west: Request, east: Request, hops: [u8; 2]) -> u8 {
-    let (west, east) = ((west, hops[0]), (east, hops[1]));
+fn is_west<const F: u8>(west: &Walk, east: &Walk) -> bool {
     let order = if wrong::<F>(Fault::HopsFirst) {
-        (west.1, west.0).cmp(&(east.1, east.0))
+        (west.hops, west.worst).cmp(&(east.hops, east.worst))
     } else if wrong::<F>(Fault::HopsIgnored) {
-        west.0.cmp(&east.0)
+        west.worst.cmp(&east.worst)
+    } else if wrong::<F>(Fault::SpanBreaksTie) {
+        (west.worst, west.hops, west.span).cmp(&(east.worst, east.hops, east.span))
     } else {
-        west.cmp(&east)
+        (west.worst, west.hops).cmp(&(east.worst, east.hops))
     };
-    if order.is_lt() || (order.is_eq() && !wrong::<F>(Fault::TieEast)) {
-        WEST
-    } else {
-        EAST
+    order.is_lt() || (order.is_eq() && !wrong::<F>(Fault::TieEast))
+}
+
+impl Way {
+    /// A reply without a way to go.
+    fn none(reply: u8) -> Way {
+        Way {
+            reply,
+            ..Way::default()
+        }
     }
 }
 
-/// The worst request on the way along a ringlet; none if that way is not usable.
+impl Walk {
+    /// The answer if this is the way chosen.
+    pub fn chosen(self, reply: u8) -> Way {
+        Way {
+            reply,
+            hops: self.hops,
+            worst: self.worst as u8,
+            span: self.span,
+        }
+    }
+}
+
+/// The walk along a ringlet; none if the station is not heard there, or a lower hop is not held.
 fn walk<const F: u8>(
     table: &Table,
+    own: [Request; 2],
     ringlet: usize,
-    own: Request,
     target: &Station,
-) -> Option<Request> {
-    let last = target.hops[ringlet];
-    if last == 0 {
-        return None;
+) -> Option<Walk> {
+    let hops = target.hops[ringlet];
+    let run = run::<F>(table, own, ringlet);
+    let mut requests = requests(run.get(..usize::from(hops))?);
+    if let (true, Some(last)) = (wrong::<F>(Fault::TargetFarEnd), requests.last_mut()) {
+        *last = target.requests[ringlet].max(*last);
     }
-    let chain = chain(table, ringlet);
-    // Each span has two ends: the one behind us, and the next station's end that faces us.
-    let mut end = if wrong::<F>(Fault::OwnEndLeftOut) {
+    let worst = *requests.iter().max()?;
+    let (span, _) = (1..).zip(requests).find(|(_, has)| *has == worst)?;
+    Some(Walk { hops, worst, span })
+}
+
+/// The request on a span is the higher of its two ends.
+pub fn requests(spans: &[Ends]) -> Vec<Request> {
+    spans.iter().map(|[near, far]| *near.max(far)).collect()
+}
+
+/// The spans along a ringlet, span 1 first, as far as every hop is held.
+pub fn run<const F: u8>(table: &Table, own: [Request; 2], ringlet: usize) -> Vec<Ends> {
+    let mut near = if wrong::<F>(Fault::OwnEndLeftOut) {
         Request::Idle
     } else {
-        own
+        own[ringlet]
     };
-    let mut worst = end;
-    for held in &chain[1..=usize::from(last)] {
-        let station = match held {
-            Some(station) => station,
-            None if wrong::<F>(Fault::GapsAllowed) => continue,
-            None => return None,
+    let mut spans = Vec::new();
+    for held in &chain(table, ringlet)[1..] {
+        let (far, next) = match held {
+            Some(station) => (station.requests[1 - ringlet], station.requests[ringlet]),
+            None if wrong::<F>(Fault::GapsAllowed) => (Request::Idle, near),
+            None => break,
         };
-        worst = worst.max(end).max(station.requests[1 - ringlet]);
-        end = station.requests[ringlet];
+        spans.push([near, far]);
+        near = next;
     }
-    if wrong::<F>(Fault::TargetFarEnd) {
-        worst = worst.max(end);
-    }
-    (worst < Request::Sf).then_some(worst)
+    spans
+}
+
+/// The request on each span west and east, as far as every hop is held.
+pub fn runs(table: &Table, own: [Request; 2]) -> [Vec<Request>; 2] {
+    [0, 1].map(|ringlet| requests(&run::<RIGHT>(table, own, ringlet)))
 }
 
 /// Slot 0 gathers the stations not heard on this ringlet; nobody looks at it.
@@ -96,7 +158,6 @@ fn chain(table: &Table, ringlet: usize) -> Chain<'_> {
 #[cfg(test)]
 mod tests {
     use super::*;
-    use crate::faults::RIGHT;
     use crate::records::Report;
 
     const IDLE: [Request; 2] = [Request::Idle; 2];
@@ -124,7 +185,7 @@ mod tests {
     }
 
     fn ask(table: &Table, own: [Request; 2], address: u64) -> u8 {
-        steer::<RIGHT>(table, own, address)
+        steer::<RIGHT>(table, own, address).reply
     }
 
     #[test]

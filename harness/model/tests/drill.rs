@@ -58,8 +58,53 @@ fn questions_are_numbered_and_refused_ones_short() {
         &[7, 0, 40, 0, 2, 0, 0, 0, 0],
         &[2, 0, 40, 1],
     ]);
-    let lines = "1 0 0 0 0 1 0\n2 way 0\n3 way 3\n4 way 3\n5 4\n6 4\n7 3 0 0 0 1 0\n";
-    assert_eq!(said, lines);
+    let lines = [
+        "1 0 0 0 0 1 0",
+        "2 way 0 1 0 1",
+        "3 way 3 0 0 0",
+        "4 way 3 0 0 0",
+        "5 4",
+        "6 4",
+        "7 3 0 0 0 1 0",
+    ];
+    assert_eq!(said, lines.join("\n") + "\n");
+}
+
+#[test]
+fn a_way_has_its_hops_its_worst_request_and_the_span_of_it() {
+    let question: &[u8] = &[8, 0, 40, 0, 2, 0, 0, 0, 0, 3];
+    let said = say_after_settings(&[
+        // B at hop 1 with west SD, C at hop 3, and then at hop 2.
+        &[14, 0, 5, 0, 0, 0, 255, 2, 0, 0, 0, 0, 2, 7, 3, 0],
+        &[14, 0, 5, 0, 0, 0, 253, 2, 0, 0, 0, 0, 3, 7, 0, 0],
+        question,
+        &[14, 0, 5, 0, 0, 0, 254, 2, 0, 0, 0, 0, 3, 8, 0, 0],
+        question,
+        // East of us C has east MS, which is beyond it, and A asks for MS.
+        &[14, 0, 5, 0, 1, 1, 255, 2, 0, 0, 0, 0, 3, 9, 0, 2],
+        &[4, 0, 4, 0, 1, 2],
+        question,
+        // With FS on both spans there are ways, and none is usable.
+        &[4, 0, 4, 0, 0, 5],
+        question,
+        &[4, 0, 4, 0, 1, 5],
+        question,
+    ]);
+    let lines = [
+        "1 0 0 0 0 1 0",
+        "2 0 0 0 0 2 0",
+        "3 way 2 0 0 0",
+        "4 0 0 0 0 2 0",
+        "5 way 0 2 3 2",
+        "6 0 0 0 0 2 0",
+        "7 0 0 2 1 2 1",
+        "8 way 1 1 2 1",
+        "9 0 5 2 2 2 1",
+        "10 way 1 1 2 1",
+        "11 0 5 5 3 2 1",
+        "12 way 2 0 0 0",
+    ];
+    assert_eq!(said, lines.join("\n") + "\n");
 }
 
 #[test]

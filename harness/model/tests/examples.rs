@@ -2,7 +2,7 @@
 
 use model::drill;
 use model::faults::RIGHT;
-use model::{Node, Shown};
+use model::{Node, Shown, Way};
 
 /// The settings of the worked drill: level 2, no WTR, no hold-off, keepalive 50.
 const SETTINGS: [u8; 19] = [
@@ -21,6 +21,16 @@ fn started(level: u8, hold_off: u8) -> Node {
 
 fn address(last: u8) -> u64 {
     0x0200_0000_0000 + u64::from(last)
+}
+
+fn way(reply: u8, hops: u8) -> Way {
+    // Nobody asks for anything, so that the first span with the worst request is span 1.
+    Way {
+        reply,
+        hops,
+        worst: 0,
+        span: 1,
+    }
 }
 
 fn link(span: u8, status: u8) -> Vec<u8> {
@@ -91,7 +101,7 @@ fn p1_p2_p3_sequences() {
 fn p4_p5_hops() {
     let mut node = started(2, 0);
     assert_eq!(give(&mut node, &report(0, 255, B, 0, [0, 0])), 0);
-    assert_eq!(node.steer(address(B)), 0);
+    assert_eq!(node.steer(address(B)), way(0, 1));
     assert_eq!(give(&mut node, &report(0, 193, 3, 0, [0, 0])), 0);
     assert_eq!(node.station_count(), 2);
     assert_eq!(give(&mut node, &report(0, 192, 4, 0, [0, 0])), 6);
@@ -102,10 +112,11 @@ fn p4_p5_hops() {
             &report(0, hop.wrapping_neg(), 10 + hop, 0, [0, 0]),
         );
         assert_eq!(
-            (result, node.steer(address(3))),
+            (result, node.steer(address(3)).reply),
             (0, 2 * u8::from(hop < 62))
         );
     }
+    assert_eq!(node.steer(address(3)), way(0, 63));
 }
 
 /// Ticks with keepalives coming, after each of which the west request is this one and the east IDLE.
@@ -173,9 +184,9 @@ fn p11_p12_ways() {
         give(&mut node, &report(0, west, last, 0, [0, 0]));
         give(&mut node, &report(1, east, last, 0, [0, 0]));
     }
-    assert_eq!(node.steer(address(3)), 0);
+    assert_eq!(node.steer(address(3)), way(0, 2));
     give(&mut node, &report(0, 255, 2, 1, [3, 0]));
-    assert_eq!(node.steer(address(3)), 1);
+    assert_eq!(node.steer(address(3)), way(1, 2));
 }
 
 #[test]

@@ -137,7 +137,8 @@ fn a_station_behind_a_gap_counts() {
         hear(&mut node, last, ringlet, hop);
     }
     reserve_all(&mut node);
-    assert_eq!(node.steer(address(B)), 2, "nobody is heard at hops 2 to 4");
+    let reply = node.steer(address(B)).reply;
+    assert_eq!(reply, 2, "nobody is heard at hops 2 to 4");
     assert_eq!(node.free_bandwidth(1_000, [0, 0]), free(300, 930, false));
 }
 

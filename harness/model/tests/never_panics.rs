@@ -55,6 +55,7 @@ fn random_records() {
         assert!(node.station_count() <= 63);
         let address = chance.next() >> chance.below(64);
         node.steer(address);
+        node.runs();
         node.attributes(address);
         let own = [chance.next() as u16, chance.byte().into()];
         node.free_bandwidth(chance.next() as u32 >> chance.below(32), own);

@@ -1,6 +1,6 @@
 //! Each number a call can return, and that a refusal leaves state and output alone.
 
-use model::{Node, Shown};
+use model::{Node, Shown, Way};
 
 const SETTINGS: [u8; 19] = [
     0x11, 0, 0x20, 0, 2, 2, 0, 0, 0, 0, 1, 0, 0, 0, 0x32, 0x0A, 2, 0x0A, 0,
@@ -211,8 +211,12 @@ fn addresses_no_station_can_have_are_3() {
         reply: 3,
         ..Shown::default()
     };
+    let no_way = Way {
+        reply: 3,
+        ..Way::default()
+    };
     for address in [0x0200_0000_0001, 0x0300_0000_0002, 1 << 48, u64::MAX] {
-        assert_eq!(node.steer(address), 3);
+        assert_eq!(node.steer(address), no_way);
         assert_eq!(node.attributes(address), not_there);
     }
 }

@@ -392,8 +392,9 @@ tick 1 keepalive 2  => 9..11 0 0 0 0 0 0
     fn results_by_hand_are_those_of_every_line() {
         let head = "# results by hand\nsettings short\n";
         let kept = |lines: &str, printed: &str| accepted(&format!("{head}{lines}"), printed).1;
-        assert_eq!(kept("way 00-00-00-00-00-00 => 1 way 3\n", "1 way 3\n"), 0);
-        assert_eq!(kept("way 00-00-00-00-00-00 => 1 way 3\n", "1 way 2\n"), 1);
+        let way = "way 00-00-00-00-00-00 => 1 way 0 2 3 1\n";
+        assert_eq!(kept(way, "1 way 0 2 3 1\n"), 0);
+        assert_eq!(kept(way, "1 way 2 0 0 0\n"), 1);
         assert_eq!(kept("tick => 1 0 0 0 0 0 0\n", ""), 1, "nothing is printed");
         assert_eq!(kept("tick\n", "1 0 0 0 0 0 0\n"), 1, "no line by hand");
         assert_eq!(
@@ -414,6 +415,18 @@ tick 1 keepalive 2  => 9..11 0 0 0 0 0 0
         assert_eq!(accepted(source, "settings 2\n").1, 0);
         let source = "settings short\nbytes 00 00 => settings 2 # by hand\n";
         assert_eq!(accepted(source, "1 2\n").1, 1);
+    }
+
+    #[test]
+    fn where_the_trouble_is_stays_only_if_its_line_is_by_hand() {
+        let source = "# results by hand\nsettings short\nway 00-00-00-00-00-00  => 1 way 0 0 0 0";
+        let (text, kept) = accepted(&format!("{source}\n"), "1 way 0 3 3 2\n");
+        assert!(
+            text.ends_with("  => 1 way 0 3 3 2\n") && kept == 0,
+            "{text}"
+        );
+        let marked = format!("{source}  # by hand\n");
+        assert_eq!(accepted(&marked, "1 way 0 3 3 2\n"), (marked, 1));
     }
 
     #[test]
@@ -480,8 +493,11 @@ tick 1 keepalive 2  => 9..11 0 0 0 0 0 0
     fn no_name_is_used_above_the_line_that_gives_it() {
         let source =
             "settings short\nbytes 08002800020000000002 02000100\nname B 02-00-00-00-00-02\n";
-        let (text, _) = accepted(source, "1 way 3\n2 0 0 0 0 0 0\n");
-        assert!(text.contains("way 02-00-00-00-00-02  => 1 way 3"), "{text}");
+        let (text, _) = accepted(source, "1 way 3 0 0 0\n2 0 0 0 0 0 0\n");
+        assert!(
+            text.contains("way 02-00-00-00-00-02  => 1 way 3 0 0 0\n"),
+            "{text}"
+        );
     }
 
     #[test]

@@ -155,7 +155,7 @@ impl fmt::Display for Table<'_> {
 mod tests {
     use super::*;
 
-    const PRINTED: &str = "1 0 0 0 0 0 0\n2 0 0 0 0 0 0\n3 0 0 0 0 0 1\n4 way 3\n";
+    const PRINTED: &str = "1 0 0 0 0 0 0\n2 0 0 0 0 0 0\n3 0 0 0 0 0 1\n4 way 0 3 3 2\n";
 
     fn check(source: &str) -> (Vec<Mismatch>, usize) {
         let text = Text::read(source.as_bytes()).unwrap();
@@ -165,7 +165,7 @@ mod tests {
 
     #[test]
     fn what_is_expected_is_found() {
-        let whole = "settings short\ntick 2 => 1..2 0 0 0 0 0 0\ntick => 3 0 0 0 0 0 1\nway 00-00-00-00-00-00 => 4 way 3\n";
+        let whole = "settings short\ntick 2 => 1..2 0 0 0 0 0 0\ntick => 3 0 0 0 0 0 1\nway 00-00-00-00-00-00 => 4 way 0 3 3 2\n";
         assert_eq!(check(whole), (vec![], 0));
         assert_eq!(
             check("settings short\ntick 3 => 3 0 0 0 0 0 1\nway 00-00-00-00-00-00\n"),
@@ -239,7 +239,33 @@ mod tests {
                 "{shown}"
             );
         }
-        let (found, _) = check("settings short\ntick 3\nway 00-00-00-00-00-00 => 4 way 0\n");
-        assert!(Table(&found).to_string().ends_with("(differs in reply)"));
+        let cases = [
+            ("4 way 1 3 3 2", "reply"),
+            ("4 way 0 4 3 2", "hops"),
+            ("4 way 0 3 2 2", "worst"),
+            ("4 way 0 3 3 1", "span"),
+            ("4 way 2 0 0 0", "reply, hops, worst, span"),
+        ];
+        for (expected, fields) in cases {
+            let (found, _) = check(&format!(
+                "settings short\ntick 3\nway 00-00-00-00-00-00 => {expected}\n"
+            ));
+            let shown = Table(&found).to_string();
+            assert!(
+                shown.ends_with(&format!("(differs in {fields})")),
+                "{shown}"
+            );
+        }
+    }
+
+    #[test]
+    fn a_program_that_prints_the_reply_alone_differs() {
+        let text = Text::read(b"settings short\nway 00-00-00-00-00-00 => 1 way 3 0 0 0\n").unwrap();
+        let found = mismatches(&text, &Staged::of(&text, "1 way 3\n"));
+        let shown = Table(&found).to_string();
+        assert!(
+            shown.ends_with("   1 way 3 0 0 0   1 way 3   way 00-00-00-00-00-00"),
+            "{shown}"
+        );
     }
 }

@@ -111,11 +111,13 @@ fn numbers(word: &str) -> Option<(Option<u64>, u64)> {
     (1 <= first && first <= last).then_some((Some(first), last))
 }
 
-/// The fields behind the number: a reply, a refusal, or six numbers.
+/// The fields behind the number: a reply with three numbers, a refusal, or six numbers.
 fn rest(words: &mut Words) -> Result<String, Slip> {
     if words.take_if("way") {
         let reply = words.byte()?;
-        return Ok(format!("way {reply}"));
+        let (hops, worst) = (field(words, "hops")?, field(words, "worst request")?);
+        let span = field(words, "first span with it")?;
+        return Ok(format!("way {reply} {hops} {worst} {span}"));
     }
     let could = || "a result, a refusal (2 or 4), or way".to_string();
     let result: u8 = words.value(decimal, could)?;

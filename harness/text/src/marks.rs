@@ -87,7 +87,7 @@ mod tests {
         assert!(!results_by_hand(&text(
             "tick # results by hand\n# no results by hand\n"
         )));
-        let printed = "1 0 0 0 0 0 1\n2 0 0 0 0 0 1\n3 way 1\nsettings 4\n";
+        let printed = "1 0 0 0 0 0 1\n2 0 0 0 0 0 1\n3 way 1 2 3 1\nsettings 4\n";
         assert!(reports_kept(&text("# reports by hand: 2 (both)\n"), printed).is_empty());
         assert_eq!(
             reports_kept(&text("tick\n#Reports by hand: 3\n"), printed)[0].line,

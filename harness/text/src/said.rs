@@ -17,9 +17,22 @@ pub enum Answer {
     /// A full line.
     Full(Full),
     /// The reply to a question.
-    Way(u8),
+    Way(Way),
     /// A question refused (4), or a record that ends the drill (2).
     Short(u8),
+}
+
+/// The fields of a question's line behind the word `way`. Where no way is chosen, all but the reply are 0.
+#[derive(Clone, Copy, Debug, PartialEq, Eq)]
+pub struct Way {
+    /// West, east, no way, or not in the table.
+    pub reply: u8,
+    /// Hops, and spans, to the station.
+    pub hops: u8,
+    /// The worst request on them.
+    pub worst: u8,
+    /// The first span that has it, from 1, which touches us.
+    pub span: u8,
 }
 
 /// The fields of a full line behind the number.
@@ -52,7 +65,12 @@ impl Said {
 impl Answer {
     fn of(fields: &[&str]) -> Option<Answer> {
         Some(match fields {
-            ["way", reply] => Answer::Way(decimal(reply)?),
+            ["way", reply, hops, worst, span] => Answer::Way(Way {
+                reply: decimal(reply)?,
+                hops: decimal(hops)?,
+                worst: decimal(worst)?,
+                span: decimal(span)?,
+            }),
             [refusal] => Answer::Short(decimal(refusal)?),
             [result, west, east, sequence, stations, reports] => Answer::Full(Full {
                 result: decimal(result)?,
@@ -78,7 +96,7 @@ impl Answer {
 pub fn fields(count: usize) -> &'static [&'static str] {
     match count {
         2 => &["number", "refusal"],
-        3 => &["number", "way", "reply"],
+        6 => &["number", "way", "reply", "hops", "worst", "span"],
         _ => &[
             "number", "result", "west", "east", "sequence", "stations", "reports",
         ],
@@ -102,7 +120,16 @@ mod tests {
             Said::of("5 22 1 2 3 4 1"),
             Some(Said::Line(5, Answer::Full(full)))
         );
-        assert_eq!(Said::of("6 way 3"), Some(Said::Line(6, Answer::Way(3))));
+        let way = Way {
+            reply: 1,
+            hops: 63,
+            worst: 3,
+            span: 40,
+        };
+        assert_eq!(
+            Said::of("6 way 1 63 3 40"),
+            Some(Said::Line(6, Answer::Way(way)))
+        );
         assert_eq!(Said::of("7 4"), Some(Said::Line(7, Answer::Short(4))));
         assert_eq!(Said::of("settings 4"), Some(Said::Settings(4)));
         for line in [
@@ -113,6 +140,10 @@ mod tests {
             "1  2",
             "x 2",
             "1 way",
+            "1 way 3",
+            "1 way 0 2 3",
+            "1 way 0 2 3 1 0",
+            "1 way 0 256 3 1",
             "1 0 0 0 0 1 0 0",
         ] {
             assert_eq!(Said::of(line), None, "{line}");

@@ -6,7 +6,7 @@ use crate::codes::{request, REPLIES};
 use crate::names::Names;
 use crate::record::Record;
 use crate::records::{Report, Settings};
-use crate::said::{Answer, Full, Said};
+use crate::said::{Answer, Full, Said, Way};
 use crate::stations::Stay;
 use crate::told::{Play, Told};
 use crate::writing::words;
@@ -156,10 +156,7 @@ fn row(told: &Told, is_first: bool, moves: &str, names: &Names) -> Row {
 fn answered(answer: &Answer, record: &Record) -> (String, String) {
     match answer {
         Answer::Full(full) => (result(full.result, record), stand(full)),
-        Answer::Way(reply) => {
-            let reply_word = REPLIES.get(usize::from(*reply)).unwrap_or(&"unknown reply");
-            (format!("{reply_word} ({reply})"), String::new())
-        }
+        Answer::Way(way) => (chosen(way), String::new()),
         Answer::Short(2) => (
             "cut, or a length outside 2 to 1,033 (2): the drill ends".into(),
             String::new(),
@@ -169,6 +166,24 @@ fn answered(answer: &Answer, record: &Record) -> (String, String) {
             String::new(),
         ),
     }
+}
+
+/// The way chosen, how long it is, and where on it the trouble is.
+fn chosen(way: &Way) -> String {
+    let reply = way.reply;
+    let word = REPLIES.get(usize::from(reply)).unwrap_or(&"unknown reply");
+    if reply > 1 {
+        return format!("{word} ({reply})");
+    }
+    let hops = match way.hops {
+        1 => "1 hop".to_string(),
+        hops => format!("{hops} hops"),
+    };
+    let trouble = match way.worst {
+        0 => "all idle".to_string(),
+        worst => format!("worst {} on span {}", request(worst), way.span),
+    };
+    format!("{word} ({reply}), {hops}, {trouble}")
 }
 
 /// The settings as times, so that nobody has to multiply.
@@ -296,11 +311,11 @@ mod tests {
     #[test]
     fn each_line_has_its_words() {
         let source = "name B 02-00-00-00-00-02\nsettings short\nreport west from B hop 1 sequence 134\nway B\noperator east fs\n";
-        let said = said(source, "1 22 0 0 2 1 0\n2 way 0\n3 0 0 5 3 1 1\n");
+        let said = said(source, "1 22 0 0 2 1 0\n2 way 0 1 0 1\n3 0 0 5 3 1 1\n");
         for words in [
             "keepalive 3 ms, reports 10 and 100 ms, forget 1000 ms",
             "| report west from B hop 1 sequence 134 idle idle  | old report (22): nothing stored  | west IDLE, east IDLE, 1 station\n",
-            "| west (0)\n",
+            "| west (0), 1 hop, all idle\n",
             "| taken (0)                        | west IDLE, east FS, 1 station, report 3 sent\n",
         ] {
             assert!(said.contains(words), "{words}\n{said}");
@@ -340,10 +355,13 @@ report west from 02-00-00-00-00-02 hop 1 => 1 21 4 0 1 0 0 | span down (21): not
 report west from 02-00-00-00-00-02 hop 1 => 1 22 0 0 0 1 0 | old report (22): nothing stored
 report west from 02-00-00-00-00-02 hop 1 => 1 23 0 0 0 63 0 | no place (23): nothing stored
 attributes west from 02-00-00-00-00-02 => 1 24 0 0 0 1 0 | block set aside (24): the station is behind
-way 02-00-00-00-00-02 => 1 way 0 | west (0)
-way 02-00-00-00-00-02 => 1 way 1 | east (1)
-way 02-00-00-00-00-02 => 1 way 2 | no way (2)
-way 02-00-00-00-00-02 => 1 way 3 | not in the table (3)
+way 02-00-00-00-00-02 => 1 way 0 1 0 1 | west (0), 1 hop, all idle
+way 02-00-00-00-00-02 => 1 way 0 2 0 1 | west (0), 2 hops, all idle
+way 02-00-00-00-00-02 => 1 way 0 3 3 2 | west (0), 3 hops, worst SD on span 2
+way 02-00-00-00-00-02 => 1 way 1 1 2 1 | east (1), 1 hop, worst MS on span 1
+way 02-00-00-00-00-02 => 1 way 1 63 1 40 | east (1), 63 hops, worst WTR on span 40
+way 02-00-00-00-00-02 => 1 way 2 0 0 0 | no way (2)
+way 02-00-00-00-00-02 => 1 way 3 0 0 0 | not in the table (3)
 way 03-00-00-00-00-02 => 1 4 | wrong length or odd address (4): not answered
 bytes 00 00 => 1 2 | cut, or a length outside 2 to 1,033 (2): the drill ends
 ";

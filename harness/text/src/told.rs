@@ -145,7 +145,7 @@ mod tests {
 
     #[test]
     fn each_line_gets_what_begins_in_it() {
-        let printed = "1 0 0 0 0 0 0\n2 0 0 0 0 0 0\n3 way 3\n";
+        let printed = "1 0 0 0 0 0 0\n2 0 0 0 0 0 0\n3 way 3 0 0 0\n";
         let lines = staged(
             "# one\nsettings short\ntick 2\nway 02-00-00-00-00-02\n",
             printed,

@@ -57,7 +57,8 @@ operator west none
 report east from B ttl 255 ringlet 0 sequence 7 sf 5
 attributes east from B weights 3 5 reserved 1000 65535
 attributes west from B block 80 09 0000
-way B => 40 way 3
+way B => 40 way 3 0 0 0
+way B => 41 way 1 63 3 40
 bytes 00*9 FF
 settings short address B
 ";
@@ -78,7 +79,7 @@ fn record_lines(text: &str) -> Vec<(usize, &str)> {
 fn damage(chance: &mut Chance, words: &str) -> String {
     let mut list: Vec<String> = words.split_whitespace().map(str::to_string).collect();
     let first = list[0].clone();
-    match chance.below(9) {
+    match chance.below(10) {
         0 => list[0].push('q'),
         1 => {
             list[0] = chance
@@ -91,7 +92,8 @@ fn damage(chance: &mut Chance, words: &str) -> String {
         5 if first != "bytes" => list.insert(1, "99999999999999999999".to_string()),
         6 => list.push("=> 1 0 0 0 0".to_string()),
         7 => list.push("=> 1 0 0 0 0 0 0 => 1".to_string()),
-        8 if ["link", "operator", "keepalive", "way", "name", "ticks"].contains(&&first[..]) => {
+        8 => list.push("=> 1 way 0".to_string()),
+        9 if ["link", "operator", "keepalive", "way", "name", "ticks"].contains(&&first[..]) => {
             list.pop();
         }
         _ => list.push("*".to_string()),

@@ -69,7 +69,10 @@ fn readme_shows_what_is_said() {
         .split("```\n")
         .find(|block| block.starts_with("# a copy teaches"));
     let own = Text::read(own.unwrap().as_bytes()).unwrap();
-    assert_eq!(own.expected(), "1 0 0 0 0 1 0\n2 0 0 0 0 1 0\n3 way 0\n");
+    assert_eq!(
+        own.expected(),
+        "1 0 0 0 0 1 0\n2 0 0 0 0 1 0\n3 way 0 1 0 1\n"
+    );
 }
 
 #[test]

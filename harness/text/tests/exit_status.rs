@@ -15,9 +15,9 @@ const WORKED: &str = "\
 name B 02-00-00-00-00-02
 settings address 02-00-00-00-00-01 wtr 0 keepalive 50 forget 10
 report west from B hop 1 sequence 7 idle idle        => 1 0 0 0 0 1 0
-way B                                                => 2 way 0
+way B                                                => 2 way 0 1 0 1
 ";
-const LINES: &str = "1 0 0 0 0 1 0\n2 way 0\n";
+const LINES: &str = "1 0 0 0 0 1 0\n2 way 0 1 0 1\n";
 
 /// A directory of one test, removed at its end.
 struct Place(Room);
@@ -70,11 +70,49 @@ fn what_is_expected_is_0() {
 fn a_difference_is_1_and_stands_side_by_side() {
     let place = Place::new("differs");
     let file = place.file("a.drill", WORKED);
-    let other = "1 0 0 0 0 2 0\n2 way 0\n";
+    let other = "1 0 0 0 0 2 0\n2 way 0 1 0 1\n";
     let (status, said, complained) = output(&place.run(other, &[&file]));
     assert_eq!((status, &said[..]), (Some(1), other));
     let row = "   3   1 0 0 0 0 1 0   1 0 0 0 0 2 0   report west from B hop 1 sequence 7 idle idle (differs in stations)\n";
     assert!(complained.contains(row), "{complained}");
+}
+
+#[test]
+fn where_the_trouble_is_differs_by_name() {
+    let place = Place::new("trouble");
+    let file = place.file("a.drill", WORKED);
+    let other = LINES.replace("way 0 1 0 1", "way 0 2 3 2");
+    let (status, said, complained) = output(&place.run(&other, &["--say", &file]));
+    assert_eq!(status, Some(1));
+    assert!(
+        said.contains("| west (0), 2 hops, worst SD on span 2\n"),
+        "{said}"
+    );
+    let row = "   4   2 way 0 1 0 1   2 way 0 2 3 2   way B (differs in hops, worst, span)\n";
+    assert!(complained.contains(row), "{complained}");
+}
+
+#[test]
+fn a_reply_alone_is_a_mistake_in_a_text_and_a_difference_in_a_program() {
+    let place = Place::new("alone");
+    let old = place.file("a.drill", WORKED.replace("way 0 1 0 1", "way 0"));
+    let (status, said, complained) = output(&place.run(LINES, &[&old]));
+    assert_eq!((status, &said[..]), (Some(2), ""));
+    let told =
+        ", line 4: the line ends where this could stand: the number of the line's field 'hops'\n";
+    assert!(complained.contains(told), "{complained}");
+    let new = place.file("b.drill", WORKED);
+    let lines = LINES.replace("way 0 1 0 1", "way 0");
+    let (status, said, complained) = output(&place.run(&lines, &["--say", &new]));
+    assert_eq!(status, Some(1));
+    assert!(said.contains("| no line of the program\n"), "{said}");
+    let row = "   4   2 way 0 1 0 1   2 way 0   way B\n";
+    assert!(complained.contains(row), "{complained}");
+    let (status, _, complained) = output(&place.run(&lines, &["--picture", "a.svg", &new]));
+    assert!(
+        status == Some(2) && complained.contains("'2 way 0' is printed where line 2"),
+        "{complained}"
+    );
 }
 
 #[test]
@@ -128,7 +166,7 @@ fn all_wants_every_line() {
     let shown = format!("# shows\n{WORKED}");
     let cases = [
         (
-            file("b.drill", &shown.replace("=> 2 way 0", "")),
+            file("b.drill", &shown.replace("=> 2 way 0 1 0 1", "")),
             1,
             "1 lines are printed",
         ),
@@ -179,7 +217,8 @@ fn a_program_that_says_it_otherwise_differs() {
         LINES.trim_end().to_string(),
         format!("{LINES}3 0 0 0 0 1 0\n"),
         format!("{LINES}\n"),
-        LINES.replace("2 way 0\n", ""),
+        LINES.replace("2 way 0 1 0 1\n", ""),
+        LINES.replace("2 way 0 1 0 1", "2 way 0"),
         String::new(),
     ];
     for lines in cases {
@@ -277,7 +316,7 @@ impl Write for Deaf {
 fn one_who_has_read_enough_is_no_trouble() {
     let place = Place::new("enough");
     let file = place.file("a.drill", WORKED);
-    for (lines, wanted) in [(LINES, 0), ("1 0 0 0 0 2 0\n2 way 0\n", 1)] {
+    for (lines, wanted) in [(LINES, 0), ("1 0 0 0 0 2 0\n2 way 0 1 0 1\n", 1)] {
         let said = place.file("said", lines);
         let program = format!("sh {}", place.file("program", format!("cat '{said}'\n")));
         let mut arguments = vec!["--drill".to_string(), program, file.clone()];
@@ -312,7 +351,7 @@ fn a_picture_is_drawn_and_what_differs_is_told() {
     let place = Place::new("picture");
     let file = place.file("a.drill", WORKED);
     let out = place.0.path().join("a.svg").display().to_string();
-    for (lines, wanted) in [(LINES, 0), ("1 0 0 0 0 1 1\n2 way 0\n", 1)] {
+    for (lines, wanted) in [(LINES, 0), ("1 0 0 0 0 1 1\n2 way 0 1 0 1\n", 1)] {
         assert_eq!(
             output(&place.run(lines, &["--picture", &out, &file])).0,
             Some(wanted)

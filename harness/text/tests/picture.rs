@@ -307,6 +307,17 @@ fn time_goes_on_in_the_next_strip() {
 }
 
 #[test]
+fn the_trouble_on_a_way_is_drawn_in_its_arrow() {
+    let kept = is_kept(
+        &Drill::named("trouble_turns.drill"),
+        "harness/text/tests/trouble_turns.svg",
+    );
+    for trouble in ["SD span 1", "MS span 1", "WTR span 1", "WTR span 2"] {
+        assert!(kept.contains(&format!(">{trouble}</text>")), "{trouble}");
+    }
+}
+
+#[test]
 fn every_part_is_drawn_as_it_was_when_somebody_looked() {
     let drill = Drill::named("every_part.drill");
     let kept = is_kept(&drill, "harness/text/tests/every_part.svg");
@@ -386,6 +397,27 @@ link east failed => 4 0 0 4 1 1 1
 }
 
 #[test]
+fn only_a_way_with_trouble_tells_of_it() {
+    let source = "\
+settings address 02-00-00-00-00-01 keepalive 50
+report west from 02-00-00-00-00-02 hop 1 sd idle => 1 0 0 0 0 1 0
+report west from 02-00-00-00-00-03 hop 2 => 2 0 0 0 0 2 0
+way 02-00-00-00-00-03 => 3 way 0 2 3 2
+way 02-00-00-00-00-02 => 4 way 0 1 0 1
+operator west fs => 5 0 5 0 1 2 1
+way 02-00-00-00-00-03 => 6 way 2 0 0 0
+";
+    let picture = Drill::of("trouble", source.into()).draw().unwrap();
+    let words = with_class(strips(&picture), "way");
+    let words: Vec<&str> = words
+        .iter()
+        .map(|element| element.split(['>', '<']).nth(2).unwrap())
+        .collect();
+    let wanted = ["-03", "west", "SD span 2", "-02", "west", "-03", "no way"];
+    assert_eq!(words, wanted);
+}
+
+#[test]
 fn ticks_that_share_a_record_are_drawn_as_time() {
     let source = "\
 settings address 02-00-00-00-00-01 keepalive 50
@@ -443,7 +475,7 @@ fn drills_without_records_are_drawn_too() {
         ),
         (
             &[8, 0, 33, 0, 2, 0, 0, 0, 0, 1, 8, 0, 40, 0, 2, 0, 0, 0, 0, 2][..],
-            "1 way 3\n",
+            "1 way 3 0 0 0\n",
             "not in",
         ),
     ] {
@@ -510,7 +542,11 @@ fn no_bytes_and_no_lines_make_it_panic() {
             let result = [0, 0, 0, 4, 20, 24, 99][chance.below(7) as usize];
             let (west, east, sequence) = (chance.below(8), chance.below(6), chance.below(256));
             lines += &match chance.below(12) {
-                0 => format!("{number} way {}\n", chance.below(9)),
+                0 => {
+                    let [reply, hops, worst, span] =
+                        [9, 256, 256, 256].map(|end| chance.below(end));
+                    format!("{number} way {reply} {hops} {worst} {span}\n")
+                }
                 1 => format!("{number} 4\n"),
                 _ => format!(
                     "{number} {result} {west} {east} {sequence} 0 {}\n",

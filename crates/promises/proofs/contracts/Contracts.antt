@@ -11,7 +11,7 @@ use Rattle.blocks.proofs as blocks
 use Rattle.blocks.specs.Meaning.{blockAt}
 use Rattle.blocks.specs.Writing.{Wrote}
 use Rattle.controller.proofs as controller
-use Rattle.controller.specs.Node.{node, startedIn, answerIn, settingsOf, stateOf, westRequest, eastRequest, steered, asked}
+use Rattle.controller.specs.Node.{node, startedIn, answerIn, settingsOf, stateOf, westRequest, eastRequest, steering, asked}
 use Rattle.controller.specs.Kept.{Kept}
 use Rattle.controller.specs.Promise.{Begun, Recorded}
 use Rattle.bandwidth.proofs as bandwidth
@@ -44,7 +44,7 @@ steer-asks = (λ w κs a. refl, refl)
 
 pub steer-is :
     IsPromised controller.steer.ended controller.steer.Reads.ensures controller.steer.Reads.Post
-    (λ κs a x e. x ≡ steered (stateOf (node (now (a .0)) (now (a .1 .0)))) (a .1 .1 .0))
+    (λ κs a x e. x ≡ steering (stateOf (node (now (a .0)) (now (a .1 .0)))) (a .1 .1 .0))
 steer-is = (λ w κs a x e. refl, refl)
 
 pub attributes-asks : IsAsked controller.attributes.ended controller.attributes.Reads.requires controller.attributes.Reads.Pre (λ κs a. Kept (node (now (a .0)) (now (a .1 .0))))

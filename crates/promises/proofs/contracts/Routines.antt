@@ -8,7 +8,7 @@ use Rattle.blocks.proofs as blocks
 use Rattle.blocks.specs.Meaning.{blockAt}
 use Rattle.blocks.specs.Writing.{Wrote}
 use Rattle.controller.proofs as controller
-use Rattle.controller.specs.Node.{node, startedIn, answerIn, settingsOf, stateOf, westRequest, eastRequest, steered, asked}
+use Rattle.controller.specs.Node.{node, startedIn, answerIn, settingsOf, stateOf, westRequest, eastRequest, steering, asked}
 use Rattle.controller.specs.Kept.{Kept}
 use Rattle.controller.specs.Promise.{Begun, Recorded}
 use Rattle.bandwidth.proofs as bandwidth
@@ -33,7 +33,7 @@ take-record-meets w = controller.take_record.Met.met (w .𝓤) (w .H) (w .𝓜) 
 pub steer-meets :
     RoutineMeets controller.steer.ended controller.steer.Symbol.routine
     (λ κs a. Kept (node (now (a .0)) (now (a .1 .0))))
-    (λ κs a x e. x ≡ steered (stateOf (node (now (a .0)) (now (a .1 .0)))) (a .1 .1 .0))
+    (λ κs a x e. x ≡ steering (stateOf (node (now (a .0)) (now (a .1 .0)))) (a .1 .1 .0))
 steer-meets w = controller.steer.Met.met (w .𝓤) (w .H) (w .𝓜) (w .𝓖) (w .𝓡)
 
 pub attributes-meets :

@@ -6,8 +6,8 @@ use lib.ListN.{length}
 use Rattle.wire.specs.Report.{over}
 use Rattle.settings.specs.declared.choice.Settings.{Settings}
 use Rattle.settings.specs.Reading.{settingsIn}
-use Rattle.ways.specs.Choice.{number}
-use Rattle.controller.specs.Node.{Node, Started, Answer, choiceOf, settingsOf, stateOf, nodeOf, startedWith, answerOf, westRequest, eastRequest, steered, asked}
+use Rattle.ways.specs.Choice.{numbers}
+use Rattle.controller.specs.Node.{Node, Started, Answer, choiceOf, settingsOf, stateOf, nodeOf, startedWith, answerOf, westRequest, eastRequest, steering, asked}
 use Rattle.controller.specs.State.{State, started}
 use Rattle.controller.specs.Record.{Outcome, outcomes}
 use Rattle.controller.specs.Kept.{Kept}
@@ -104,7 +104,7 @@ module _ (b : List ℕ) (st : Started) (begun : Begun b st) where
         east = ap eastRequest e;
         stations = ap (λ (s : State). s .stations) e;
         sequence = ap (λ (s : State). s .pacer .sequence) e;
-        ways = λ a. ap (λ (s : State). number (steered s a)) e;
+        ways = λ a. ap (λ (s : State). numbers (steering s a)) e;
         attributes = λ a. ap (λ (s : State). asked s a) e;
       })
 

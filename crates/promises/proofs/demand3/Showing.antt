@@ -16,10 +16,10 @@ use Rattle.blocks.specs.Attributes.{absent, valued, behindWith, attributesFrom}
 use Rattle.blocks.specs.Levels.{Sub, Fewer}
 use Rattle.blocks.proofs.Fewer.{fewer, values-kept}
 use Rattle.stations.specs.Stations.{present, attributesOf}
-use Rattle.ways.specs.Choice.{number, wayTo, hopOf}
+use Rattle.ways.specs.Choice.{numbers, wayTo, steeringTo, hopOf}
 use Rattle.controller.specs.State.{State}
 use Rattle.controller.specs.declared.ask.Shown.{Shown}
-use Rattle.controller.specs.Node.{westRequest, eastRequest, steered, shown, asked}
+use Rattle.controller.specs.Node.{westRequest, eastRequest, steering, shown, asked}
 use Rattle.promises.specs.Levels.{FirstUnknown, dressed, saysBehind, valueShown, Levelled, attributesBy, under}
 use Rattle.promises.proofs.demand3.First.{unknown-of, of-unknown}
 use Rattle.promises.proofs.demand3.Dress.{present-dressed, attributes-dressed, hop-dressed, way-dressed, twice-dressed}
@@ -144,9 +144,9 @@ module _ (K : List ℕ) (late : ℕ → Option (List ℕ)) (s : State) (sub : Su
       go true n = same-shown a n
       go false n = same-of _ _ refl
 
-  steered-under : (a : ℕ) → steered (under K f s) a ≡ steered s a
-  unfolding steered wayTo
-  steered-under a =
+  steering-under : (a : ℕ) → steering (under K f s) a ≡ steering s a
+  unfolding steering steeringTo wayTo
+  steering-under a =
       rw (
         present-dressed f a (s .stations),
         hop-dressed f 0 a (s .stations),
@@ -164,7 +164,7 @@ module _ (K : List ℕ) (late : ℕ → Option (List ℕ)) (s : State) (sub : Su
     west = refl;
     east = refl;
     pacer = refl;
-    steering = λ a. ap number (steered-under a);
+    steering = λ a. ap numbers (steering-under a);
     behind = behind-both;
     says = says-behind;
     reply = λ a n. same-asked own a n .reply;

@@ -1,6 +1,8 @@
 -- What Steering supposes is met, by computation: settings, histories of bytes, ways that are answered. And what `said` gives on histories. Assumes nothing.
 use mathlib.Core.Path.{_≡_, refl}
 use mathlib.Core.Bool.{false}
+use mathlib.Core.List.{[], _∷_}
+use mathlib.Core.Logic.{inl, inr}
 use mathlib.Core.Option.{none, some}
 use native.Mathlib.Omega.{arith}
 use Rattle.wire.specs.Fields.{addressAt}
@@ -12,17 +14,17 @@ use Rattle.settings.specs.Reading.{fieldsOf, fullIn, settingsIn}
 use Rattle.spans.specs.Codes.{IDLE, SD, SF}
 use Rattle.blocks.specs.Types.{knows}
 use Rattle.stations.specs.Stations.{present}
-use Rattle.ways.specs.Choice.{number, hopOf}
+use Rattle.ways.specs.Choice.{number, numbers, hopOf}
 use Rattle.controller.specs.State.{started}
-use Rattle.controller.specs.Node.{choiceOf, westRequest, eastRequest, steered}
+use Rattle.controller.specs.Node.{choiceOf, westRequest, eastRequest, steered, steering}
 use Rattle.promises.specs.History.{after, AllBytes}
-use Rattle.promises.specs.Steering.{said, StandsAt, Clear}
+use Rattle.promises.specs.Steering.{said, StandsAt, Points, Clear}
 use Rattle.promises.specs.Drilled.{callsFor}
 use Rattle.promises.specs.Examples.{station, settings, ring}
 use Rattle.promises.specs.Possible.{allBytes}
-use Rattle.promises.specs.SteeringDrills.{one, state, ends, and-then, purging, rejoining, westward}
+use Rattle.promises.specs.SteeringDrills.{one, state, ends, and-then, purging, rejoining, westward, troubled}
 use Rattle.promises.proofs.demand2.Possible.{all-bytes}
-use Rattle.promises.proofs.steering.Steering.{west-clear, east-clear}
+use Rattle.promises.proofs.steering.Steering.{west-clear, east-clear, west-points, east-points, zeros-told}
 
 pub one-is : choiceOf (settingsIn (settings 2 0) .settings) ≡ one
 unfolding settingsIn headOf broken fullIn fieldsOf inRange addressAt ticksOf knows
@@ -127,3 +129,30 @@ far-end-failed = refl
 pub far-end-said : said (started one) (callsFor (westward SF)) (station 3) ≡ some (ends IDLE SF)
 unfolding started said addressAt
 far-end-said = refl
+
+-- 02, Item 5: no way, and zeros; and of a station that was never heard.
+pub far-end-zeros : numbers (steering (state (westward SF)) (station 3)) ≡ 2 ∷ 0 ∷ 0 ∷ 0 ∷ []
+far-end-zeros = zeros-told (state (westward SF)) (station 3) 2 (inl refl) far-end-failed
+
+pub unheard : number (steered (state (westward SF)) (station 5)) ≡ 3
+unfolding started after steered addressAt
+unheard = refl
+
+pub unheard-zeros : numbers (steering (state (westward SF)) (station 5)) ≡ 3 ∷ 0 ∷ 0 ∷ 0 ∷ []
+unheard-zeros = zeros-told (state (westward SF)) (station 5) 3 (inr refl) unheard
+
+-- Trouble on the second span of the way west; the numbers of this ring and of P12's are among the examples (`Second-span`, `P12-told`).
+pub troubled-bytes : AllBytes (callsFor troubled)
+unfolding allBytes
+troubled-bytes = all-bytes (callsFor troubled) refl
+
+pub troubled-west : number (steered (state troubled) (station 3)) ≡ 0
+unfolding started after steered addressAt
+troubled-west = refl
+
+pub troubled-points : Points (said (started one) (callsFor troubled)) 0 (westRequest (state troubled)) (state troubled .stations) (station 3) (steering (state troubled) (station 3))
+troubled-points = west-points one ticks-met (callsFor troubled) troubled-bytes (station 3) troubled-west
+
+-- P12: on the way east there is none.
+pub east-pointed : Points (said (started one) (callsFor (ring SD))) 1 (eastRequest (state (ring SD))) (state (ring SD) .stations) (station 3) (steering (state (ring SD)) (station 3))
+east-pointed = east-points one ticks-met (callsFor (ring SD)) east-bytes (station 3) east-met

@@ -15,8 +15,9 @@ use Rattle.stations.specs.Kept.{Apart}
 use Rattle.stations.proofs.Lists.{chosen, each-map, each-both}
 use Rattle.ways.specs.Walk.{Ends, near, far, held}
 use Rattle.ways.specs.Choice.{hopOf}
-use Rattle.ways.specs.Usable.{startOf, Open}
-use Rattle.promises.specs.Steering.{StandsAt, Leaves, Clear}
+use Rattle.ways.specs.Usable.{startOf, Crosses, Open, Tells}
+use Rattle.ways.specs.declared.choice.Steering.{Steering}
+use Rattle.promises.specs.Steering.{StandsAt, Leaves, Requested, Points, Clear}
 use Rattle.promises.proofs.steering.Saying.{endsOf, Says}
 
 never : {A : Type 0} → _≡_ {A = ℕ} 0 1 → A
@@ -82,20 +83,36 @@ module _ (told : ℕ → Option Ends) (l : List Station) (up : Ascending l) (say
         go none q = let z : _≡_ {A = Option ℕ} none (some from) = rw q at p in never (cc)
         go (some e) q = let z : some (far ringlet e) ≡ some from = rw q at p in (e, stands ringlet (suc j) e q, cc)
 
+    -- What both ends of a span request is what was said.
+    crossed : (j x : ℕ) → Crosses ringlet own l j x → Requested told ringlet own l j x
+    crossed j x c = record {
+      from = c .from;
+      to = near ringlet (c .to);
+      leaves = leaves j (c .from) (c .from-is);
+      meets = (c .to, stands ringlet (suc j) (c .to) (c .to-is), refl);
+      is = c .request;
+    }
+
     -- Each span of an open way is clear: the higher of its ends is below SF, so both are.
     pub open-clear : (h : ℕ) → Open ringlet own l h → (j : ℕ) → j < h → Clear told ringlet own l j
     open-clear h o j low =
         let (x, c, under) = o .spans j low in
-        let below : higher (c .from) (near ringlet (c .to)) < SF = rw (← c .request) under in
-        let (from, to) = both-below (c .from) (near ringlet (c .to)) SF below in
-        record {
-          from = c .from;
-          to = near ringlet (c .to);
-          leaves = leaves j (c .from) (c .from-is);
-          meets = (c .to, stands ringlet (suc j) (c .to) (c .to-is), refl);
-          from-below = from;
-          to-below = to;
-        }
+        let s = crossed j x c in
+        let below : higher (s .from) (s .to) < SF = rw (← s .is) under in
+        let (from, to) = both-below (s .from) (s .to) SF below in
+        record { from = s .from; to = s .to; leaves = s .leaves; meets = s .meets; from-below = from; to-below = to }
+
+    -- What is told of a way is what was said of its spans.
+    pub tells-points : (a : ℕ) (x : Steering) → Tells ringlet own l a x → Points told ringlet own l a x
+    tells-points a x t = record {
+      hops = t .hops;
+      before = t .trouble .before;
+      span = t .trouble .is;
+      on-the-way = t .trouble .on-the-way;
+      has = crossed (t .trouble .before) (x .worst) (t .trouble .has);
+      lower = λ j low. let (y, c, under) = t .trouble .lower j low in (y, crossed j y c, under);
+      highest = λ j low. let (y, c, under) = t .trouble .highest j low in (y, crossed j y c, under);
+    }
 
 -- "No two stations share a hop on a ringlet": a hop that no station of a list has is found there by no address ..
 not-found : (r n a : ℕ) → 1 ≤ n → (l : List Station) → Each (λ (x : Station). hop r x ≡ n → ⊥) l → hopOf r a l ≡ n → ⊥

@@ -16,9 +16,9 @@ use Rattle.settings.specs.Reading.{fieldsOf, fullIn, settingsIn}
 use Rattle.blocks.specs.Types.{knows, good, among}
 use Rattle.blocks.specs.Entries.{cut}
 use Rattle.blocks.specs.Meaning.{known, has, sound, behind, value}
-use Rattle.ways.specs.declared.choice.Reply.{Reply}
+use Rattle.ways.specs.declared.choice.Steering.{Steering}
 use Rattle.ways.specs.Choice.{number}
-use Rattle.controller.specs.Node.{Started, stateOf, startedWith, reportsIn, steered, asked}
+use Rattle.controller.specs.Node.{Started, stateOf, startedWith, reportsIn, steering, asked}
 use Rattle.controller.specs.declared.ask.Shown.{Shown}
 use Rattle.controller.specs.State.{State}
 use Rattle.controller.specs.Record.{Outcome, refusal}
@@ -39,7 +39,7 @@ answerIn l = lastOf (startOf (settings 2 0)) (callsFor l)
 record Due : Type 0 where
   starts : startedWith (settings 2 0) .result ≡ 0
   taken : answerIn (link 0 2 ∷ []) .result ≡ 0
-  east : number (steered (stateIn (P12 .records)) (station 3)) ≡ 1
+  east : number (steering (stateIn (P12 .records)) (station 3) .reply) ≡ 1
   stored : length (stateIn (report 0 255 2 1 0 0 ∷ []) .stations) ≡ 1
   values : asked (stateIn (P7 .records)) (station 2) .reply ≡ 0
   skipped : asked (afterAll (startOf (P10 .start)) (callsFor (P10 .records))) (station 2) .reply ≡ 0
@@ -50,7 +50,7 @@ record Due : Type 0 where
   told : answerIn (link 0 2 ∷ []) .report ≡ reportBytes 1 4 0
 
 due : Due
-unfolding afterAll startOf startedWith steered asked settingsIn headOf broken fullIn fieldsOf inRange addressAt ticksOf cut known has sound behind value knows good among
+unfolding afterAll startOf startedWith steering asked settingsIn headOf broken fullIn fieldsOf inRange addressAt ticksOf cut known has sound behind value knows good among
 due = record {
   starts = refl;
   taken = refl;
@@ -75,9 +75,9 @@ refuse-all st m d refuses = false≢true (sym (ap refusal (drill-answer d .resul
 
 -- Always west: 2.
 pub always-west : (st : Started) (h : List Made) → Drilled (P12 .start) (P12 .records) st h
-    → (r : Reply) → r ≡ steered (stateOf (nodeAfter st h)) (station 3) → number r ≡ 0 → ⊥
+    → (r : Steering) → r ≡ steering (stateOf (nodeAfter st h)) (station 3) → number (r .reply) ≡ 0 → ⊥
 always-west st h d r c west =
-    let east : number r ≡ 1 = ap number (c ∙ ap (λ (s : State). steered s (station 3)) (drill-state d)) ∙ due .east in
+    let east : number (r .reply) ≡ 1 = ap (λ (x : Steering). number (x .reply)) (c ∙ ap (λ (s : State). steering s (station 3)) (drill-state d)) ∙ due .east in
     omega arith
 
 -- Store nothing: 2 (3 alone admits it).

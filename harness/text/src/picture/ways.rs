@@ -1,10 +1,11 @@
-//! The ways asked, with their answers: an arrow to the west or to the east, a black box for no way, a dashed one for a stranger.
+//! The ways asked, with their answers: an arrow to the west or to the east, and in it where the trouble is; a black box for no way, a dashed one
+//! for a stranger.
 
 use std::ops::Range;
 
-use crate::codes::{word, REPLIES};
+use crate::codes::{request, word, REPLIES};
 use crate::record::Record;
-use crate::said::Answer as Said;
+use crate::said::{self, Way};
 
 use super::labels::Tags;
 use super::letters::{fit, width};
@@ -31,22 +32,28 @@ pub struct Answer {
 
 /// What was asked and answered, if something was.
 pub fn answer(step: &Step, tags: &Tags) -> Option<Answer> {
-    let Said::Way(reply) = step.answer else {
+    let said::Answer::Way(way) = step.answer else {
         return None;
     };
     let name = match step.record {
         Record::Way(address) => tags.short(*address),
         _ => String::new(),
     };
-    let words = match reply {
-        3 => vec!["not in".to_string(), "table".to_string()],
-        reply => vec![word(REPLIES, reply)],
-    };
     Some(Answer {
         name: fit(&name, SIZE, ROOM),
-        words,
-        reply,
+        words: words(&way),
+        reply: way.reply,
     })
+}
+
+/// Which way, and under it the worst request on it and the span that has it, if something is asked there.
+fn words(way: &Way) -> Vec<String> {
+    let reply = word(REPLIES, way.reply);
+    match (way.reply, way.worst) {
+        (3, _) => vec!["not in".to_string(), "table".to_string()],
+        (0 | 1, worst @ 1..) => vec![reply, format!("{} span {}", request(worst), way.span)],
+        _ => vec![reply],
+    }
 }
 
 impl Answer {
@@ -75,14 +82,22 @@ impl Answer {
             points.extend([(to, top), (to, bottom)]);
         }
         pen.shape(&format!("way{}", self.reply.min(3)), &points);
-        let light = if self.reply == 2 { " light" } else { "" };
-        let lines = [&self.name].into_iter().chain(&self.words);
-        let step = if self.words.len() > 1 { 10.0 } else { 13.0 };
-        let first = y + if self.words.len() > 1 { 11.0 } else { 14.0 };
-        let mut baseline = first;
-        for line in lines {
-            let class = format!("way{light}");
-            pen.words(&class, Anchor::Middle, ((from + to) / 2.0, baseline), line);
+        self.write(pen, (from + to) / 2.0, y);
+    }
+
+    fn write(&self, pen: &mut Pen, middle: f64, y: f64) {
+        let is_high = self.words.len() > 1;
+        let (first, step) = if is_high { (10.0, 9.5) } else { (14.0, 13.0) };
+        // Three lines reach the corners, so they keep clear of the arrow's point.
+        let x = match self.reply {
+            0 if is_high => middle + POINT / 2.0,
+            1 if is_high => middle - POINT / 2.0,
+            _ => middle,
+        };
+        let class = if self.reply == 2 { "way light" } else { "way" };
+        let mut baseline = y + first;
+        for line in [&self.name].into_iter().chain(&self.words) {
+            pen.words(class, Anchor::Middle, (x, baseline), line);
             baseline += step;
         }
     }

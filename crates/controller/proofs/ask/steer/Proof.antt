@@ -1,5 +1,5 @@
--- The two own requests, and the way that the table gives. Assumes nothing.
-use Rattle.controller.specs.Node.{steered, westRequest, eastRequest}
+-- The two own requests, and the way that the table gives, with where the trouble on it is. Assumes nothing.
+use Rattle.controller.specs.Node.{steering, westRequest, eastRequest}
 use Rattle.controller.proofs.Nodes.{kept-rows}
 use borrow.Author.Needs.{needs}
 use Rattle.controller.proofs.ask.steer.Statement.{statement}
@@ -26,7 +26,7 @@ way-to-requires c κs =
     kept-rows (entry .pre)
 
 returns : tie.Need-returns
-unfolding steered westRequest eastRequest
+unfolding steering westRequest eastRequest
 returns c =
     let ticks-in = c .before .before .before .before .before .ticks-in in
     let span-in = c .before .before .before .before .span-in in

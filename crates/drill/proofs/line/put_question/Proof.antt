@@ -1,7 +1,6 @@
 -- Each return is a case of a question's line. Assumes nothing.
 use mathlib.Core.Path.{ap, _∙_, sym}
 use Rattle.wire.specs.Fields.{oddFirst}
-use Rattle.ways.specs.Choice.{number}
 use Rattle.controller.specs.Node.{node, stateOf}
 use Rattle.drill.proofs.Questions.{wrong-length, odd-address, way-line}
 use borrow.Author.Needs.{needs}
@@ -40,28 +39,23 @@ returns-2 c =
 steer-requires : tie.Need-steer-requires
 steer-requires c κs = search needs
 
-number-requires : tie.Need-number-requires
-number-requires c κs = search needs
-
 put-way-requires : tie.Need-put-way-requires
 put-way-requires c κs = search needs
 
 returns-3 : tie.Need-returns-3
 returns-3 c =
-    let entry = c .before .before .before .before .before .before .before .before .before in
-    let if1 = c .before .before .before .before .before .before .before .if1 in
-    let address-at = c .before .before .before .before .before .before .address-at in
-    let odd-first = c .before .before .before .before .before .odd-first in
-    let if2 = c .before .before .before .before .if2 in
-    let steer = c .before .before .steer in
-    let number = c .before .number in
+    let entry = c .before .before .before .before .before .before .before .before in
+    let if1 = c .before .before .before .before .before .before .if1 in
+    let address-at = c .before .before .before .before .before .address-at in
+    let odd-first = c .before .before .before .before .odd-first in
+    let if2 = c .before .before .before .if2 in
+    let steer = c .before .steer in
     let s = stateOf (node (entry .args .own .now) (entry .args .rows .now)) in
     rw (
       way-line (entry .args .number) s (entry .args .body .now) (if1 .left)
           (ap oddFirst (sym (address-at .ensures)) ∙ sym (odd-first .ensures) ∙ if2 .left),
       ← address-at .ensures,
       ← steer .ensures,
-      ← number .ensures,
     ) (c .put-way .ensures)
 
 pub put-question-spec : {M : Type 1} → statement M
@@ -75,6 +69,5 @@ put-question-spec =
     put-refused-requires-2
     returns-2
     steer-requires
-    number-requires
     put-way-requires
     returns-3)

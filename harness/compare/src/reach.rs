@@ -1,0 +1,25 @@
+//! Where a drill reaches the rules that the requests brought: it is played once through the right model.
+
+use model::Node;
+use text::pieces::pieces;
+
+use crate::tally::Tally;
+use crate::{many, swings, ways};
+
+/// Counts what a drill reaches.
+pub fn count(input: &[u8], tally: &mut Tally) {
+    let pieces = pieces(input);
+    let settings = pieces.first().copied().unwrap_or_default();
+    let (result, mut node) = Node::start(settings);
+    if result != 0 {
+        return;
+    }
+    let mut swings = swings::Counter::default();
+    let mut many = many::Counter::default();
+    for record in &pieces[1..] {
+        ways::count(&node, record, tally);
+        let before = node.links();
+        many.give(&mut node, record, tally);
+        swings.see(before, node.links(), tally);
+    }
+}
