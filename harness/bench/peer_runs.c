@@ -1,9 +1,9 @@
-/* The runs of the crate bench on the plain C controller: the same ring, the same records, the same sums. */
+/* The runs of the crate bench on the plain C controller: the same rings, the same records, the same sums. */
 #include "runs.h"
 
 #include "../peer/ring.h"
 
-enum { MOST = 63, LONGEST = 25 };
+enum { MOST = PLACES, FARTHEST_HOP = 63, LONGEST = 25 };
 
 struct packed {
     uint8_t bytes[LONGEST];
@@ -26,7 +26,11 @@ static struct packed attributes(void) {
 
 static uint32_t capped(uint32_t stations) { return stations > MOST ? MOST : stations; }
 
-static uint8_t middle(uint32_t stations) { return (uint8_t)(stations / 2 + 1); }
+/* More stations than hops are those of two rings that are being joined. */
+static bool two_rings(uint32_t stations) { return stations > FARTHEST_HOP; }
+
+/* Of two rings the last station on ringlet 0. */
+static uint8_t middle(uint32_t stations) { return two_rings(stations) ? FARTHEST_HOP : (uint8_t)(stations / 2 + 1); }
 
 static struct packed record_of(uint32_t stations, uint32_t which) {
     switch (which) {
@@ -75,17 +79,28 @@ static void take_all(struct ring *r, const struct packed *records, size_t count)
     for (size_t i = 0; i < count; i++) take(r, &records[i]);
 }
 
-/* Every station heard on both ringlets. */
+/* Station k of a ring is heard on both ringlets .. */
+static void join_around(struct ring *r, uint32_t stations, uint8_t k) {
+    const struct packed heard[] = {report(0, k, 1, k), report(1, (uint8_t)(stations + 1 - k), 1, k)};
+    take_all(r, heard, 2);
+}
+
+/* .. and one of two rings on one alone: the first 63 on ringlet 0, the others on ringlet 1. */
+static void join_alone(struct ring *r, uint8_t k) {
+    const struct packed heard = k > FARTHEST_HOP ? report(1, k - FARTHEST_HOP, 1, k) : report(0, k, 1, k);
+    take(r, &heard);
+}
+
 static void set_up(struct ring *r, uint32_t stations) {
     static const uint8_t settings[19] = {17, 0, 32, 0, 2, 2, 0, 0, 0, 0, 1, 0, 0, 0, 50, 10, 2, 88, 2};
     ring_start(r, settings, sizeof settings);
-    for (uint32_t k = 1; k <= stations; k++) {
-        const struct packed heard[] = {report(0, (uint8_t)k, 1, (uint8_t)k), report(1, (uint8_t)(stations + 1 - k), 1, (uint8_t)k)};
-        take_all(r, heard, 2);
+    for (uint8_t k = 1; k <= stations; k++) {
+        if (two_rings(stations)) join_alone(r, k);
+        else join_around(r, stations, k);
     }
 }
 
-/* The ring that takes the record: for 9 station 2 has taken the hop of station 1 on ringlet 1. */
+/* The ring that takes the record: for 9 station 2 has taken the hop of station 1 on ringlet 1. Of two rings station 1 has none there, and the report is refused. */
 static void ready(struct ring *r, uint32_t stations, uint32_t which) {
     const struct packed taking = report(1, stations ? (uint8_t)stations : 1, 1, 2);
     set_up(r, stations);
@@ -98,6 +113,8 @@ static void stand(struct ring *r, uint32_t stations, uint32_t which) {
     set_up(r, stations);
     if (which >= 4) take_all(r, forced, 2);
 }
+
+uint64_t peer_node(void) { return sizeof(struct ring); }
 
 uint64_t peer_setup(uint32_t stations) {
     struct ring r;

@@ -10,7 +10,7 @@ enum { FAST_REPORTS = 8, LONGEST = 1033, HEAD = 4, FARTHEST_HOP = 63, OLDEST_NEW
 /* Numbers returned for a record. 1 to 8 are refusals. */
 enum {
     TAKEN = 0, NO_ROOM = 1, BAD_LENGTH = 2, BAD_KIND = 3, BAD_BODY = 4, OWN_ADDRESS = 5, HOP_TOO_FAR = 6, NO_STATION = 7, MALFORMED = 8,
-    WRONG_RINGLET = 20, SPAN_DOWN = 21, OLD_REPORT = 22, NO_PLACE = 23, SET_ASIDE = 24
+    WRONG_RINGLET = 20, SPAN_DOWN = 21, OLD_REPORT = 22, SET_ASIDE = 24
 };
 
 uint64_t ring_address(const uint8_t *bytes) {
@@ -113,7 +113,6 @@ static int hear(struct ring *r, const uint8_t *body) {
     if (distance > OLDEST_NEWER) return OLD_REPORT;
     int other = other_at(r, ringlet, hop, address);
     bool leaves = other >= 0 && r->station[other].hop[1 - ringlet] == 0;
-    if (at < 0 && r->stations - leaves >= PLACES) return NO_PLACE;
     if (other >= 0) r->station[other].hop[ringlet] = 0;
     if (leaves) {
         remove_at(r, other);

@@ -6,7 +6,7 @@
 #include <stddef.h>
 #include <stdint.h>
 
-enum { PLACES = 63, REPORT_BYTES = 7, MOST_TICKS = 1000, OUTPUT_BYTES = MOST_TICKS * REPORT_BYTES, RECORD_BYTES = 1035 };
+enum { PLACES = 126, REPORT_BYTES = 7, MOST_TICKS = 1000, OUTPUT_BYTES = MOST_TICKS * REPORT_BYTES, RECORD_BYTES = 1035 };
 
 /* Spans and the ringlets that they hear. */
 enum { WEST = 0, EAST = 1 };
@@ -49,7 +49,7 @@ struct pacer {
     uint16_t timer;
 };
 
-/* Stations stand in ascending order of address. */
+/* Stations stand in ascending order of address; each holds a hop of a ringlet that no other does, so there is always a place. */
 struct ring {
     struct settings settings;
     struct span span[2];

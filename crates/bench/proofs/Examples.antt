@@ -1,7 +1,8 @@
--- A ring of three stations, by computation: its hops, what each record answers, and what each question. Assumes nothing.
+-- By computation: a ring of three stations, its hops, what each record answers, and what each question; and the fullest table. Assumes nothing.
 use Prim.Native.Nat.{ℕ, zero, suc}
 use mathlib.Core.Path.{_≡_, refl}
 use mathlib.Core.List.{List, [], _∷_}
+use lib.ListN.{length, take, drop}
 use Rattle.wire.specs.Fields.{addressAt}
 use Rattle.wire.specs.Head.{broken, headOf}
 use Rattle.wire.specs.Report.{reportBytes}
@@ -12,6 +13,7 @@ use Rattle.blocks.specs.Entries.{cut}
 use Rattle.blocks.specs.Types.{among, knows, good}
 use Rattle.blocks.specs.Meaning.{sound, known, has, behind}
 use Rattle.stations.specs.declared.station.Station.{Station}
+use Rattle.stations.specs.Stations.{capacity}
 use Rattle.stations.specs.Table.{blank, tableOf}
 use Rattle.stations.specs.Rows.{image, tableIn}
 use Rattle.controller.specs.Node.{Node, stateOf, startedWith, steering}
@@ -71,3 +73,17 @@ three-ticks = refl
 pub three-replies : replies 5 ≡ 2 ∷ 3 ∷ 3 ∷ 3 ∷ 2 ∷ []
 unfolding three replies standing forced addressee steering
 three-replies = refl
+
+-- Two rings that are being joined fill every place ..
+unfoldable pub full : Node
+unfolding ringOf ringTo joined taken startedWith settingsIn headOf broken fullIn fieldsOf inRange addressAt ownOf tableOf image tableIn ticksOf blank reportBytes outcomes
+full = ringOf capacity
+
+pub full-count : length (stateOf full .stations) ≡ capacity
+unfolding full
+full-count = refl
+
+-- .. and meet in the middle of the table: the last hop of ringlet 0 stands beside the first of ringlet 1.
+pub full-middle : hops (take 4 (drop 61 (stateOf full .stations))) ≡ 62 ∷ 0 ∷ 63 ∷ 0 ∷ 0 ∷ 1 ∷ 0 ∷ 2 ∷ []
+unfolding full hops
+full-middle = refl

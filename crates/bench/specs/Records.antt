@@ -4,7 +4,8 @@ use mathlib.Core.Path.{_≡_}
 use mathlib.Core.Bool.{cond}
 use mathlib.Core.List.{List, [], _∷_}
 use lib.ListN.{length, take}
-use lib.Dec.{eqb}
+use lib.Dec.{eqb, ltb}
+use Rattle.stations.specs.Station.{farthest}
 use Rattle.bench.specs.declared.records.Packed.{Packed}
 
 -- Level 2, address 02-00-00-00-00-01, WTR 0, hold-off 0, keepalive 50 ms, fast 10 ms, slow 2 steps of 50 ms, forget 600 steps of 100 ms.
@@ -41,9 +42,9 @@ abbrev pub attributes : ℕ → ℕ → List ℕ
 attributes high low =
     23 ∷ 0 ∷ 6 ∷ 0 ∷ 0 ∷ 2 ∷ 0 ∷ 0 ∷ 0 ∷ high ∷ low ∷ 128 ∷ 1 ∷ 0 ∷ 2 ∷ 3 ∷ 5 ∷ 128 ∷ 2 ∷ 0 ∷ 4 ∷ 3 ∷ 232 ∷ 0 ∷ 0 ∷ []
 
--- The station in the middle of a ring.
+-- The station in the middle of a ring; of two rings that are being joined, the last on ringlet 0, in the middle of the table.
 abbrev pub middle : ℕ → ℕ
-middle stations = stations / 2 + 1
+middle stations = cond (ltb farthest stations) farthest (stations / 2 + 1)
 
 -- The record of a number, for a ring of so many stations. The new station of 3, 4 and 9 stands before all others in the table.
 unfoldable pub recordOf : ℕ → ℕ → List ℕ

@@ -3,6 +3,7 @@ use Prim.Native.Nat.{ℕ, zero, suc, _+_, _*_}
 use mathlib.Core.Bool.{cond}
 use mathlib.Core.List.{List}
 use lib.Dec.{eqb, ltb}
+use Rattle.stations.specs.Stations.{capacity}
 use Rattle.ways.specs.declared.choice.Steering.{Steering}
 use Rattle.ways.specs.Choice.{number}
 use Rattle.controller.specs.declared.ask.Shown.{Shown}
@@ -36,7 +37,7 @@ freed x = x .result + cond (x .excess) 256 0
 abbrev pub station : ℕ → ℕ
 station k = 2199023255808 + k
 
--- Who is asked for: 0 the nearest on ringlet 0, 1 the middle, 2 the farthest on ringlet 0, 3 nobody, any other number the middle.
+-- Who is asked for: 0 the nearest on ringlet 0, 1 the middle, 2 the last, 3 nobody, any other number the middle.
 unfoldable pub addressee : ℕ → ℕ → ℕ
 addressee stations which =
     cond (eqb which 0) (station 1)
@@ -51,3 +52,7 @@ standing stations which = cond (ltb which 4) (ringOf stations) (forced (ringOf s
 -- The node that takes the record of a number: for 9 the station at hop 1 has that hop alone.
 unfoldable pub readied : ℕ → ℕ → Node
 readied stations which = cond (eqb which 9) (parted stations (ringOf stations)) (ringOf stations)
+
+-- The bytes of a node: 27 words of its own; the number of stations, and three words a place.
+abbrev pub nodeBytes : ℕ
+nodeBytes = 8 * (27 + (1 + 3 * capacity))

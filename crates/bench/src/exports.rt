@@ -15,11 +15,12 @@ use controller::ROW_WORDS;
 ghost use mathlib.Core.Path.{_≡_};
 ghost use Prim.Native.Nat.{_*_, _≤_};
 ghost use lib.ListN.{length};
+ghost use Rattle.stations.specs.Stations.{capacity};
 ghost use Rattle.controller.specs.Node.{node, stateOf, steering, asked};
 ghost use Rattle.bandwidth.specs.Free.{freeBandwidth};
 ghost use Rattle.bench.specs.Records.{ticks, recordOf};
 ghost use Rattle.bench.specs.Ring.{Stands, capped, ringOf};
-ghost use Rattle.bench.specs.Runs.{carried, pointed, weighed, freed, station, addressee, standing, readied};
+ghost use Rattle.bench.specs.Runs.{carried, pointed, weighed, freed, station, addressee, standing, readied, nodeBytes};
 
 // The ring alone: how many stations are in the table.
 #[no_mangle]
@@ -32,9 +33,17 @@ pub extern "C" fn bench_setup(stations: u32) -> u64
     controller::station_count(&own, &rows) as u64
 }
 
+// The bytes of a node, which its caller lends: what a call needs of the stack is besides them.
+#[no_mangle]
+pub extern "C" fn bench_node() -> u64
+    ensures { λ r. ⌜ r ≡ nodeBytes ⌝ }
+{
+    ((OWN_WORDS + ROW_WORDS) * 8) as u64
+}
+
 // The node that takes the record of a number.
 fn ready(own: &mut [u64; OWN_WORDS], rows: &mut [u64; ROW_WORDS], stations: u8, which: u32)
-    requires { ⌜ stations ≤ 63 ⌝ }
+    requires { ⌜ stations ≤ capacity ⌝ }
     ensures { λ _. ⌜ Stands (readied stations which) (node (now (own .exit)) (now (rows .exit))) ⌝ }
 {
     ring(own, rows, stations);
@@ -44,9 +53,9 @@ fn ready(own: &mut [u64; OWN_WORDS], rows: &mut [u64; ROW_WORDS], stations: u8, 
 }
 
 // The ring, then one record `calls` times, the node carried from call to call.
-// 0 tick, 1 keepalive, 2 a copy from the middle station, 3 a new station at the next hop (6 at 63 stations), 4 a new station at hop 1
-// (23 at 63 stations), 5 attributes, 6 link good, 7 operator none, 8 an unknown kind, 9 a new station at hop 1 where the one there leaves,
-// any other number an empty record.
+// 0 tick, 1 keepalive, 2 a copy from the middle station, 3 a new station at the next hop (6 from 63 stations on), 4 a new station at hop 1,
+// 5 attributes, 6 link good, 7 operator none, 8 an unknown kind, 9 a new station at hop 1 where the one there leaves, any other number an
+// empty record.
 // Ticks carried: at the 50th without a keepalive both spans go down and the table is emptied.
 #[no_mangle]
 pub extern "C" fn bench_record(stations: u32, which: u32, calls: u32) -> u64
@@ -87,7 +96,7 @@ fn station(k: u8) -> u64
 
 // Who is asked for.
 fn addressee(stations: u8, which: u32) -> u64
-    requires { ⌜ stations ≤ 63 ⌝ }
+    requires { ⌜ stations ≤ capacity ⌝ }
     ensures { λ r. ⌜ r ≡ addressee stations which ⌝ }
 {
     match which {
@@ -101,7 +110,7 @@ fn addressee(stations: u8, which: u32) -> u64
 
 // The node that is asked.
 fn stand(own: &mut [u64; OWN_WORDS], rows: &mut [u64; ROW_WORDS], stations: u8, which: u32)
-    requires { ⌜ stations ≤ 63 ⌝ }
+    requires { ⌜ stations ≤ capacity ⌝ }
     ensures { λ _. ⌜ Stands (standing stations which) (node (now (own .exit)) (now (rows .exit))) ⌝ }
 {
     ring(own, rows, stations);
@@ -111,7 +120,7 @@ fn stand(own: &mut [u64; OWN_WORDS], rows: &mut [u64; ROW_WORDS], stations: u8, 
 }
 
 // The ring, then `calls` times the way to a station.
-// 0 the nearest on ringlet 0, 1 the middle, 2 the farthest on ringlet 0, 3 nobody, any other number the middle with FS on both spans.
+// 0 the nearest on ringlet 0, 1 the middle, 2 the last, 3 nobody, any other number the middle with FS on both spans.
 #[no_mangle]
 pub extern "C" fn bench_steer(stations: u32, which: u32, calls: u32) -> u64
     ensures { λ r. ⌜ r ≡ calls * pointed (steering (stateOf (standing (capped stations) which)) (addressee (capped stations) which)) ⌝ }

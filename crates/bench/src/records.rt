@@ -1,8 +1,10 @@
 // The fixed records of the runs.
+use stations::FARTHEST_HOP;
 ghost use mathlib.Core.Path.{_≡_};
 ghost use mathlib.Core.List.{_∷_};
 ghost use Prim.Native.Nat.{_+_, _-_, _≤_};
 ghost use lib.ListN.{replicate};
+ghost use Rattle.stations.specs.Stations.{capacity};
 ghost use Rattle.bench.specs.Records.{report, attributes, ticks, middle, recordOf, Holds};
 
 // A record at the front of 25 bytes, the length of the longest here.
@@ -82,16 +84,19 @@ pub(crate) fn ticks(n: u32) -> Packed
     brief(4, 7, (n % 256) as u8, (n / 256 % 256) as u8)
 }
 
-// The station in the middle of a ring.
+// The station in the middle of a ring; of two rings that are being joined, the last on ringlet 0.
 pub(crate) fn middle(stations: u8) -> u8
-    ensures { λ r. ⌜ r ≡ middle stations ⌝ }
+    ensures { λ r. ⌜ (r ≡ middle stations) × (1 ≤ r) ⌝ }
 {
+    if FARTHEST_HOP < stations {
+        return FARTHEST_HOP;
+    }
     stations / 2 + 1
 }
 
 // The record of a number, for a ring of so many stations.
 pub(crate) fn record_of(stations: u8, which: u32) -> Packed
-    requires { ⌜ stations ≤ 63 ⌝ }
+    requires { ⌜ stations ≤ capacity ⌝ }
     ensures { λ r. ⌜ Holds (recordOf stations which) r ⌝ }
 {
     match which {

@@ -5,14 +5,17 @@ use crate::records::report;
 use controller::OWN_WORDS;
 use controller::ROW_WORDS;
 use controller::Returned;
+use stations::FARTHEST_HOP;
+use stations::PLACES;
 ghost use mathlib.Core.Path.{_≡_};
 ghost use mathlib.Core.Bool.{cond};
 ghost use Prim.Native.Nat.{_≤_};
 ghost use lib.Dec.{eqb};
 ghost use lib.ListN.{length, take};
+ghost use Rattle.stations.specs.Stations.{capacity};
 ghost use Rattle.controller.specs.Kept.{Kept};
 ghost use Rattle.controller.specs.Node.{node, answerIn};
-ghost use Rattle.bench.specs.Ring.{taken, Took, Stands, capped, joined, ringOf, parted, forced};
+ghost use Rattle.bench.specs.Ring.{taken, Took, Stands, capped, around, alone, joined, ringOf, parted, forced};
 
 // Kind 32: level 2, address 02-00-00-00-00-01, WTR 0, hold-off 0, keepalive 50, fast 10, slow 2, forget 600.
 const SETTINGS: [u8; 19] = [17, 0, 32, 0, 2, 2, 0, 0, 0, 0, 1, 0, 0, 0, 50, 10, 2, 88, 2];
@@ -40,28 +43,52 @@ fn after(own: &mut [u64; OWN_WORDS], rows: &mut [u64; ROW_WORDS], r: Packed)
     take(own, rows, &bytes[..end]);
 }
 
-// A number above 63 counts as 63.
+// A number above that of the places counts as that.
 pub(crate) fn capped(stations: u32) -> u8
-    ensures { λ r. ⌜ (r ≡ capped stations) × (r ≤ 63) ⌝ }
+    ensures { λ r. ⌜ (r ≡ capped stations) × (r ≤ capacity) ⌝ }
 {
-    if 63 < stations {
-        return 63;
+    if PLACES < stations as usize {
+        return PLACES as u8;
     }
     stations as u8
 }
 
-// Station k is heard on both ringlets.
-fn join(own: &mut [u64; OWN_WORDS], rows: &mut [u64; ROW_WORDS], stations: u8, k: u8)
-    requires { ⌜ Kept (node (now own) (now rows)) × (1 ≤ k) × (k ≤ stations) × (stations ≤ 63) ⌝ }
-    ensures { λ _. ⌜ Stands (joined stations k (node (now (own .entry)) (now (rows .entry)))) (node (now (own .exit)) (now (rows .exit))) ⌝ }
+// Station k of a ring is heard on both ringlets.
+fn join_around(own: &mut [u64; OWN_WORDS], rows: &mut [u64; ROW_WORDS], stations: u8, k: u8)
+    requires { ⌜ Kept (node (now own) (now rows)) × (1 ≤ k) × (k ≤ stations) × (stations ≤ capacity) ⌝ }
+    ensures { λ _. ⌜ Stands (around stations k (node (now (own .entry)) (now (rows .entry)))) (node (now (own .exit)) (now (rows .exit))) ⌝ }
 {
     after(own, rows, report(0, k, 1, k));
     after(own, rows, report(1, stations + 1 - k, 1, k));
 }
 
+// Station k of two rings that are being joined is heard on one ringlet alone.
+fn join_alone(own: &mut [u64; OWN_WORDS], rows: &mut [u64; ROW_WORDS], k: u8)
+    requires { ⌜ Kept (node (now own) (now rows)) × (1 ≤ k) ⌝ }
+    ensures { λ _. ⌜ Stands (alone k (node (now (own .entry)) (now (rows .entry)))) (node (now (own .exit)) (now (rows .exit))) ⌝ }
+{
+    if FARTHEST_HOP < k {
+        after(own, rows, report(1, k - FARTHEST_HOP, 1, k));
+    } else {
+        after(own, rows, report(0, k, 1, k));
+    }
+}
+
+// Station k is heard. More stations than hops are those of two rings.
+fn join(own: &mut [u64; OWN_WORDS], rows: &mut [u64; ROW_WORDS], stations: u8, k: u8)
+    requires { ⌜ Kept (node (now own) (now rows)) × (1 ≤ k) × (k ≤ stations) × (stations ≤ capacity) ⌝ }
+    ensures { λ _. ⌜ Stands (joined stations k (node (now (own .entry)) (now (rows .entry)))) (node (now (own .exit)) (now (rows .exit))) ⌝ }
+{
+    if FARTHEST_HOP < stations {
+        join_alone(own, rows, k);
+    } else {
+        join_around(own, rows, stations, k);
+    }
+}
+
 // The ring of so many stations.
 pub(crate) fn ring(own: &mut [u64; OWN_WORDS], rows: &mut [u64; ROW_WORDS], stations: u8)
-    requires { ⌜ stations ≤ 63 ⌝ }
+    requires { ⌜ stations ≤ capacity ⌝ }
     ensures { λ _. ⌜ Stands (ringOf stations) (node (now (own .exit)) (now (rows .exit))) ⌝ }
 {
     let settings = SETTINGS;

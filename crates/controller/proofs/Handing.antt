@@ -49,7 +49,7 @@ judged-settled c (Block n a) b x y l =
     ap (λ (d : Bool). cond {A = Placed} d (gives 21 l) (cond (present a l) (taking a (meaning (c .known) b) l) (gives 7 l)))
     (down-settled (c .ticks) n x y)
 
--- A report that was read is never refused: 0, or 20 to 23 ..
+-- A report that was read is never refused: 0, or 20 to 22 ..
 abbrev Taken : Placed → Type 0
 Taken j = refusal (j .result) ≡ false
 
@@ -58,7 +58,7 @@ unfolding hearing
 hearing-taken t n p x l =
     chosen Taken (eqb (p .ringlet) n)
     (λ e. chosen Taken (down t (spanOf n x)) (λ e. refl)
-    (λ e. placed-ends Taken p l (λ stored e newer. refl) (λ stored e old. refl) (λ e room. refl) (λ e full. refl)))
+    (λ e. placed-ends Taken p l (λ stored e newer. refl) (λ stored e old. refl) (λ e. refl)))
     (λ e. refl)
 
 -- .. and a block that is refused leaves the stations.

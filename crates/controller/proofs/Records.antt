@@ -82,6 +82,9 @@ module _ {own rows : List ℕ} (k : Kept (node own rows)) (r : Reading) (block :
     pub forget-fits : ticksOn own1 .forget < 2 ^ 16
     forget-fits = subst (λ (d : Settings). ticksOf d .forget < 2 ^ 16) (sym settings1) (omega (arith, k .state .ticks .forget))
 
+    pub reading-fits : ReadingKept (c .address) r → ReadingKept (settingsOn own1 .address) r
+    reading-fits = subst (λ (d : Settings). ReadingKept (d .address) r) (sym settings1)
+
     -- The stations were judged by own1, and the words rows1 left.
     module _ {rows1 : List ℕ} {h : ℕ} (j : left rows1 h ≡ leftBy (judged (choiceOn own1) r block (spansOn own1) (stationsIn rows))) where
       left-is : left rows1 h ≡ leftBy placed

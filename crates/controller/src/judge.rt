@@ -14,16 +14,19 @@ ghost use mathlib.Core.Path.{_≡_};
 ghost use Prim.Native.Nat.{_<_, _^_};
 ghost use Rattle.blocks.specs.Types.{knows};
 ghost use Rattle.blocks.specs.Meaning.{meaning};
+ghost use mathlib.Core.Bool.{true};
+ghost use Rattle.stations.specs.Station.{isHop};
 ghost use Rattle.stations.specs.Table.{found};
 ghost use Rattle.stations.specs.declared.find.Found.the-variants.{At};
 ghost use Rattle.stations.specs.Rows.{RowsKept, stationsIn, left, leftBy};
 ghost use Rattle.stations.specs.Stations.{aged, given};
 ghost use Rattle.controller.specs.Handling.{gives, hearing, taking, learning, judged};
-ghost use Rattle.controller.specs.Own.{choiceOn, ticksOn, spansOn};
+ghost use Rattle.controller.specs.Kept.{ReadingKept};
+ghost use Rattle.controller.specs.Own.{settingsOn, choiceOn, ticksOn, spansOn};
 
 // A report heard: steps (b) and (c), then the table.
 fn hear(rows: &mut [u64; ROW_WORDS], own: &[u64; OWN_WORDS], n: u8, p: Report) -> u8
-    requires { ⌜ RowsKept (now rows) ⌝ }
+    requires { ⌜ RowsKept (now rows) × (isHop (p .hop) ≡ true) ⌝ }
     ensures { λ r. ⌜ left (now (rows .exit)) r ≡ leftBy (hearing (ticksOn (now (own .entry))) n p (spansOn (now (own .entry))) (stationsIn (now (rows .entry)))) ⌝ }
 {
     if p.ringlet == n {
@@ -117,7 +120,7 @@ pub(crate) fn judge(
     r: Reading,
     block: &[u8],
 ) -> u8
-    requires { ⌜ RowsKept (now rows) × (ticksOn (now own) .forget < 2 ^ 16) ⌝ }
+    requires { ⌜ RowsKept (now rows) × (ticksOn (now own) .forget < 2 ^ 16) × ReadingKept (settingsOn (now own) .address) r ⌝ }
     ensures { λ h. ⌜ left (now (rows .exit)) h ≡ leftBy (judged (choiceOn (now (own .entry))) r (now (block .entry)) (spansOn (now (own .entry))) (stationsIn (now (rows .entry)))) ⌝ }
 {
     match r {

@@ -149,7 +149,7 @@ fn block_of(b: &[u8]) -> &[u8]
     &b[BLOCK_AT..]
 }
 
-// A node takes a record from any bytes, with a buffer for its reports: the refusals 1 to 8, or 0 and 20 to 24.
+// A node takes a record from any bytes, with a buffer for its reports: the refusals 1 to 8, or 0, 20 to 22 and 24.
 pub fn take_record(
     own: &mut [u64; OWN_WORDS],
     rows: &mut [u64; ROW_WORDS],

@@ -8,3 +8,6 @@ pub mod Telling
 pub mod ManyTicks
 pub mod MeetsMany
 pub mod Demand2
+pub mod Room
+pub mod Joining
+pub mod MeetsRoom

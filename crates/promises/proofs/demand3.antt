@@ -9,3 +9,4 @@ pub mod TwoNodes
 pub mod Demand3
 pub mod Counterexample
 pub mod Meets3
+pub mod MeetsRoom3

@@ -1,9 +1,10 @@
 -- Histories after which the free bandwidth is asked for.
-use Prim.Native.Nat.{ℕ, zero, suc}
-use mathlib.Core.Bool.{false}
+use Prim.Native.Nat.{ℕ, zero, suc, _-_}
+use mathlib.Core.Bool.{false, cond}
 use mathlib.Core.List.{List, [], _∷_}
 use Rattle.stations.specs.declared.station.Station.{Station}
-use Rattle.stations.specs.Station.{stationOf}
+use lib.Dec.{leb}
+use Rattle.stations.specs.Station.{farthest, stationOf}
 use Rattle.stations.specs.Stations.{capacity}
 use Rattle.controller.specs.State.{Choice, State, started}
 use Rattle.promises.specs.History.{Call}
@@ -39,11 +40,19 @@ seconds = call (attributes 2 oneAndTwo) ∷ thirds
 abbrev pub given : List Handed
 given = record { bytes = attributes 2 oneAndTwo; old = room } ∷ record { bytes = report 0 255 2 1 0 0; old = room } ∷ []
 
--- Stations from hop k of ringlet 0 on, n of them, each of which reserves all that it can on both ringlets.
+-- The hops of the k-th of them: ringlet 0 is filled first, then ringlet 1.
+abbrev pub hopOn0 : ℕ → ℕ
+hopOn0 k = cond (leb k farthest) k 0
+
+abbrev pub hopOn1 : ℕ → ℕ
+hopOn1 k = cond (leb k farthest) 0 (k - farthest)
+
+-- Stations from the k-th on, n of them, each of which reserves all that it can on both ringlets.
 unfoldable pub reserving : ℕ → ℕ → List Station
 reserving k zero = []
 reserving k (suc n) =
-    stationOf (station (suc k)) k 0 1 0 0 0 (record { behind = false; kind = 0; weight0 = 1; weight1 = 1; reserved0 = 65535; reserved1 = 65535 })
+    stationOf (station (suc k)) (hopOn0 k) (hopOn1 k) 1 0 0 0
+    (record { behind = false; kind = 0; weight0 = 1; weight1 = 1; reserved0 = 65535; reserved1 = 65535 })
     ∷ reserving (suc k) n
 
 -- Node 1 with as many of them as there are places.

@@ -19,3 +19,4 @@ pub mod LevelDrills
 pub mod SteeringDrills
 pub mod Bandwidth
 pub mod BandwidthDrills
+pub mod Room

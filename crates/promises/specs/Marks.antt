@@ -1,4 +1,4 @@
--- "20 wrong ringlet; only the cable mark may change", and 21 to 23 "likewise": of the handler; the closing steps stand apart. 01, Stations and Numbers returned.
+-- "20 wrong ringlet; only the cable mark may change", and 21 and 22 "likewise" (23 went with 02, Item 6): of the handler; the closing steps stand apart. 01, Stations and Numbers returned.
 use Prim.Native.Nat.{ℕ}
 use mathlib.Core.Path.{_≡_}
 use mathlib.Core.Bool.{Bool, false, not, cond}
@@ -26,7 +26,7 @@ pub record HandlerLeaves (s : State) (r : Reading) (b : List ℕ) (k : ℕ) (x :
   pub stations : judged (s .choice) r b x (s .stations) ≡ gives k (s .stations)
   pub closes : outcomeOf r b s ≡ closed s false x (gives k (s .stations))
 
--- What a result k from 20 to 23 says of the record r: it is a report, and only the mark of its span may change; or a block, with 21, and nothing changes.
+-- What a result k from 20 to 22 says of the record r: it is a report, and only the mark of its span may change; or a block, with 21, and nothing changes.
 abbrev pub OnlyMark : State → List ℕ → ℕ → Reading → Type 0
 OnlyMark s b k (Refused i) = ⊥
 OnlyMark s b k Tick = ⊥

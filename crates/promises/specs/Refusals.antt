@@ -10,13 +10,14 @@ use Rattle.wire.specs.Head.{kindOf, bodyOf, broken}
 use Rattle.settings.specs.Reading.{fullFits, shortFits}
 use Rattle.spans.specs.Requests.{down}
 use Rattle.blocks.specs.Meaning.{Meaning, malformed, aside, shows, meaning}
+use Rattle.stations.specs.Station.{farthest}
 use Rattle.stations.specs.Stations.{present}
 use Rattle.controller.specs.Reading.{linkFits, keepaliveFits, operatorFits, reportFits, blockFits, blockOf, countIn, ticksFit}
 use Rattle.controller.specs.State.{State, spanOf}
 
 -- The numbers that a record may get.
 abbrev pub numbers : List ℕ
-numbers = 0 ∷ 1 ∷ 2 ∷ 3 ∷ 4 ∷ 5 ∷ 6 ∷ 7 ∷ 8 ∷ 20 ∷ 21 ∷ 22 ∷ 23 ∷ 24 ∷ []
+numbers = 0 ∷ 1 ∷ 2 ∷ 3 ∷ 4 ∷ 5 ∷ 6 ∷ 7 ∷ 8 ∷ 20 ∷ 21 ∷ 22 ∷ 24 ∷ []
 
 abbrev pub isKind : ℕ → List ℕ → Bool
 isKind k b = eqb (kindOf b) k
@@ -56,7 +57,7 @@ tests =
     ∷ record { number = 4; applies = λ s b room. not (bodyFits b) }
     ∷ record { number = 1; applies = λ s b room. isKind 7 b && ltb room (7 * countIn (bodyOf b)) }
     ∷ record { number = 5; applies = λ s b room. (isKind 5 b || isKind 6 b) && eqb (heardAddress b) (s .choice .address) }
-    ∷ record { number = 6; applies = λ s b room. isKind 5 b && ltb 63 (256 - byteAt (bodyOf b) 2) }
+    ∷ record { number = 6; applies = λ s b room. isKind 5 b && ltb farthest (256 - byteAt (bodyOf b) 2) }
     ∷ record { number = 21; applies = λ s b room. isKind 6 b && down (s .choice .ticks) (spanOf (byteAt (bodyOf b) 0) (s .spans)) }
     ∷ record { number = 7; applies = λ s b room. isKind 6 b && not (present (heardAddress b) (s .stations)) }
     ∷ record { number = 8; applies = λ s b room. isKind 6 b && isMalformed (meaning (s .choice .known) (blockOf b)) }

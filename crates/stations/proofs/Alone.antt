@@ -1,54 +1,28 @@
 -- Where hops stand apart, step (e) of a report touches one station at most: who is spared, and what becomes of the list. Assumes nothing.
 use mathlib.Core.Path.{_≡_, refl, sym, ap, _∙_}
-use mathlib.Core.Bool.{Bool, true, false, cond, not, _&&_}
+use mathlib.Core.Bool.{Bool, true, false, cond}
 use mathlib.Core.List.{List, [], _∷_}
-use Prim.Native.Nat.{ℕ, zero, suc, _+_, _-_, _<_, _≤_}
+use Prim.Native.Nat.{ℕ, zero, suc, _+_, _<_, _≤_}
 use native.Mathlib.Omega.{arith}
 use lib.Dec.{eqb, ltb}
 use lib.ListN.{length, getD, set, length-set}
 use lib.Seq.{getD-set-same, getD-set-other}
-use borrow.Author.Tests.{ne-eqb, lt-ltb, le-ltb, ltb-true, ltb-false, eqb-true, eqb-false}
-use Rattle.stations.specs.Station.{Station, Report, hop, placedSomewhere, withHops, withHop}
-use Rattle.stations.specs.Stations.{capacity, sifted, unpurged, otherAt, undisplaced, losing, displaced}
+use borrow.Author.Tests.{ne-eqb, ltb-true, ltb-false, eqb-true, eqb-false}
+use Rattle.stations.specs.Station.{Station, Report, hop, withHop}
+use Rattle.stations.specs.Stations.{sifted, unpurged, otherAt, undisplaced, losing, displaced}
 use Rattle.stations.specs.Kept.{Apart}
 use Rattle.stations.specs.Steps.{rankOf, removedAt, Spared, Sole}
 use Rattle.stations.specs.Table.{Each, blank}
 use Rattle.stations.proofs.Ranks.{each-at}
 use Rattle.stations.proofs.Sifting.{sifted-same, displaced-length, losing-address}
 use Rattle.stations.proofs.Renewing.{own-not-other}
-use Rattle.stations.proofs.Shifts.{removed-long}
 
--- Who is spared: no other at the report's hop ..
+-- Who is spared: no other at the report's hop.
 pub spared-own : (p : Report) (s : Station) → otherAt p s ≡ false → Spared p s
 spared-own p s e = (rw e, rw e)
 
 pub spared-away : (p : Report) (s : Station) → (hop (p .ringlet) s ≡ p .hop → ⊥) → Spared p s
 spared-away p s away = spared-own p s (rw (ne-eqb (hop (p .ringlet) s) (p .hop) away))
-
--- .. and, of a report at hop 0, whoever is somewhere: the hop that would be lost is none.
-cleared-same : (ringlet : ℕ) (s : Station) → hop ringlet s ≡ 0 → withHop ringlet 0 s ≡ s
-cleared-same ringlet s = go (eqb ringlet 0)
-  where
-    go : (b : Bool) → cond b (s .hop0) (s .hop1) ≡ 0 → withHops (cond b 0 (s .hop0)) (cond b (s .hop1) 0) s ≡ s
-    go true e = rw (← e)
-    go false e = rw (← e)
-
-both-first : (a b : Bool) → a && b ≡ true → a ≡ true
-both-first true b e = refl
-both-first false b e = e
-
-spared-nowhere : (p : Report) (s : Station) → p .hop ≡ 0 → placedSomewhere s ≡ true → Spared p s
-spared-nowhere p s none here = go (otherAt p s) refl
-  where
-    go : (b : Bool) → otherAt p s ≡ b → Spared p s
-    go false e = spared-own p s e
-    go true e =
-        let at : hop (p .ringlet) s ≡ p .hop =
-        eqb-true (hop (p .ringlet) s) (p .hop) (both-first (eqb (hop (p .ringlet) s) (p .hop)) (not (eqb (s .address) (p .address))) e) in
-        let same : withHop (p .ringlet) 0 s ≡ s = cleared-same (p .ringlet) s (at ∙ none) in (
-          ap (λ (b : Bool). cond b (placedSomewhere (withHop (p .ringlet) 0 s)) true) e ∙ ap placedSomewhere same ∙ here,
-          ap (λ (b : Bool). cond b (withHop (p .ringlet) 0 s) s) e ∙ same,
-        )
 
 -- The stations below a place are spared.
 abbrev pub Below : Report → List Station → ℕ → Type 0
@@ -82,10 +56,6 @@ sole-here p l i apart some below is j inside other = go (ltb j i) refl
 
 pub sole-past : (p : Report) (l : List Station) (i : ℕ) → length l ≤ i → Below p l i → Sole p i l
 sole-past p l i past below j inside other = below j (omega arith)
-
-pub sole-nowhere : (p : Report) (l : List Station) (i : ℕ) → p .hop ≡ 0 → Each (λ (s : Station). placedSomewhere s ≡ true) l → Sole p i l
-sole-nowhere p l i none each j inside other =
-    spared-nowhere p (getD l j blank) none (each-at (λ (s : Station). placedSomewhere s ≡ true) l j blank each inside)
 
 -- The station of the report's own address is spared, whatever else changes of it.
 pub sole-set : (p : Report) (o at : ℕ) (s : Station) (l : List Station) → Sole p o l → at < length l → s .address ≡ p .address → Sole p o (set l at s)
@@ -141,19 +111,6 @@ module _ (p : Report) where
       let (still, same) = sole 0 (omega arith) (λ e. omega arith) in
       rw (still, same)
       (ap (λ (m : List Station). s ∷ m) (sole-leaves o l (λ i q n. sole (suc i) (omega arith) (λ e. n (omega arith))) (omega arith) leaves))
-
-  -- In a full table there is room where the one leaves.
-  pub sole-room : (o : ℕ) (l : List Station) → Sole p o l → o < length l → length l ≡ capacity
-      → not (undisplaced p (getD l o blank)) ≡ ltb (length (displaced p l)) capacity
-  sole-room o l sole h full = go (undisplaced p (getD l o blank)) refl
-    where
-      go : (b : Bool) → undisplaced p (getD l o blank) ≡ b → not b ≡ ltb (length (displaced p l)) capacity
-      go true e =
-          let long : length (displaced p l) ≡ length l = ap length (sym (sole-stays o l sole h e)) ∙ length-set l o (losing p (getD l o blank)) in
-          sym (le-ltb (length (displaced p l)) capacity (omega arith))
-      go false e =
-          let long : length (displaced p l) ≡ length l - 1 = ap length (sym (sole-leaves o l sole h e)) ∙ removed-long o l h in
-          sym (lt-ltb (length (displaced p l)) capacity (omega arith))
 
   -- Where nobody leaves, the place of an address stays.
   pub rank-same : (a : ℕ) (l : List Station) → length (displaced p l) ≡ length l → rankOf a (displaced p l) ≡ rankOf a l

@@ -3,6 +3,8 @@ pub mod Hops
 pub mod Sifting
 pub mod Renewing
 pub mod Inserting
+pub mod Pigeonhole
+pub mod Room
 pub mod Placing
 pub mod OneKept
 pub mod Keeping

@@ -1,29 +1,32 @@
 -- A report stored in words that are held: what each step leaves, and that words held so are held again. Assumes nothing.
-use mathlib.Core.Path.{_≡_, sym, ap, _∙_}
-use mathlib.Core.Bool.{Bool, true, false, cond, not}
+use mathlib.Core.Path.{_≡_, refl, sym, ap, _∙_}
+use mathlib.Core.Bool.{Bool, true, false, cond}
 use mathlib.Core.List.{List}
 use Prim.Native.Nat.{ℕ, _+_, _<_, _≤_, _^_}
 use native.Mathlib.Omega.{arith}
-use lib.Dec.{eqb, ltb}
+use lib.Dec.{eqb}
 use lib.ListN.{length, getD, set}
-use borrow.Author.Tests.{lt-ltb, le-ltb, ltb-true}
-use Rattle.stations.specs.Station.{Station, Report, hop, withHops, withHop, newcomer}
+use borrow.Author.Tests.{lt-ltb, le-ltb}
+use Rattle.stations.specs.Station.{Station, Report, isHop, hop, placedSomewhere, withHops, withHop, newcomer}
 use Rattle.stations.specs.Stations.{capacity, unpurged, otherAt, undisplaced, losing, displaced, renewed, inserted}
 use Rattle.stations.specs.Hearing.{Placed, distance, heardAgain, placed, placedNew, placedKnown}
 use Rattle.stations.specs.Kept.{Apart}
 use Rattle.stations.specs.Steps.{rankOf, insertedAt, removedAt, Sole}
 use Rattle.stations.specs.Table.{Each, At, Nothing, blank, found}
-use Rattle.stations.specs.Rows.{word0, word1, word2, stationIn, putIn, hopsAt, withHopIn, image, tableIn, stationsIn, rowsOf, InRange, RowsHeld, left, leftBy}
-use Rattle.stations.proofs.Lists.{chosen}
+use Rattle.stations.specs.Rows.{word0, word1, word2, stationIn, putIn, hopsAt, withHopIn, image, tableIn, stationsIn, rowsOf, InRange, Near, RowsHeld, RowsKept, left, leftBy}
+use Rattle.stations.proofs.Lists.{chosen, each-both}
 use Rattle.stations.proofs.Hops.{again-address}
 use Rattle.stations.proofs.Sifting.{sifted-each, displaced-ascending, displaced-length}
 use Rattle.stations.proofs.Renewing.{renewed-all, renewed-ascending, renewed-length, displaced-renewed}
+use Rattle.stations.proofs.Inserting.{absent-nobody}
+use Rattle.stations.proofs.Pigeonhole.{Hopped}
+use Rattle.stations.proofs.Room.{hop-range, always-a-place}
 use Rattle.stations.proofs.Tables.{live-long}
 use Rattle.stations.proofs.Ranks.{each-at, rank-low, insert-is}
 use Rattle.stations.proofs.Places.{found-stands, found-none, set-renewed, set-table}
 use Rattle.stations.proofs.Words.{rows-put, rows-hops, rows-held, stations-of}
 use Rattle.stations.proofs.Reading.{count-is, count-long, count-few, read-is, read-live}
-use Rattle.stations.proofs.Alone.{Below, below-next, spared-own, spared-away, sole-here, sole-set, sole-none, sole-spared, sole-stays, sole-leaves, sole-room, rank-same, other-stays}
+use Rattle.stations.proofs.Alone.{Below, below-next, spared-own, spared-away, sole-here, sole-set, sole-none, sole-spared, sole-stays, sole-leaves, rank-same, other-stays}
 
 -- The fields of a report that are stored fit their bits.
 pub record Fits (p : Report) : Type 0 where
@@ -85,6 +88,15 @@ again-ranged d p f s r =
       weight1 = t .weight1;
     })
 
+-- "so there is always a place", of words that are kept.
+pub rows-place : {w : List ℕ} (p : Report) → RowsKept w → isHop (p .hop) ≡ true → found (p .address) (stationsIn w) ≡ Nothing
+    → length (displaced p (stationsIn w)) < capacity
+rows-place {w} p k hops is =
+    let (some, low) = hop-range (p .hop) hops in
+    always-a-place p (stationsIn w) some low (k .apart)
+    (each-both (λ (s : Station). placedSomewhere s ≡ true) Near Hopped (λ s here near. (here, near)) (stationsIn w) (k .heard) (k .near))
+    (absent-nobody (p .address) (stationsIn w) (found-none (p .address) (stationsIn w) is .there))
+
 -- Words and a result, as one value.
 pub tell-both : {w : List ℕ} {n : ℕ} (p : Placed) → (n ≡ p .result) × (w ≡ rowsOf (p .stations)) → left w n ≡ leftBy p
 tell-both p e = rw (e .0, e .1)
@@ -139,11 +151,6 @@ module _ {w : List ℕ} (kept : RowsHeld w) where
       pub hop-passed : Below p (stationsIn w) i → (x ≡ p .hop → ⊥) → Below p (stationsIn w) (i + 1)
       hop-passed below e = below-next p (stationsIn w) i below (spared-away p (getD (stationsIn w) i blank) (λ q. e (here ∙ q)))
 
-    -- Room, by the count ..
-    pub room-count : getD w 0 0 < capacity → true ≡ ltb (length (displaced p (stationsIn w))) capacity
-    room-count h =
-        sym (lt-ltb (length (displaced p (stationsIn w))) capacity (omega (arith, displaced-length p (stationsIn w), count-long kept)))
-
     module _ (o : ℕ) (sole : Sole p o (stationsIn w)) where
       module _ (inside : o < getD w 0 0) where
         within : o < length (stationsIn w)
@@ -152,23 +159,8 @@ module _ {w : List ℕ} (kept : RowsHeld w) where
         read : stationIn w o ≡ getD (stationsIn w) o blank
         read = read-live kept o inside
 
-        -- .. or by the one who leaves.
+        -- What displacing leaves: one without a hop on the ringlet, one less, or all as they were.
         module _ {b : Bool} (is : b ≡ otherAt p (stationIn w o)) where
-          pub room-one : {r : Bool} → capacity ≤ getD w 0 0 → b ≡ true → r ≡ unpurged (p .ringlet) (stationIn w o)
-              → not r ≡ ltb (length (displaced p (stationsIn w))) capacity
-          room-one {r} full t stays =
-              let s : Station = stationIn w o in
-              ap not (stays ∙ sym (other-stays p s (sym is ∙ t) .0))
-              ∙ ap (λ (x : Station). not (undisplaced p x)) read
-              ∙ sole-room p o (stationsIn w) sole within (omega (arith, count-long kept, few))
-
-          pub room-own : capacity ≤ getD w 0 0 → b ≡ false → false ≡ ltb (length (displaced p (stationsIn w))) capacity
-          room-own full t =
-              ap not (sym (spared-own p (stationIn w o) (sym is ∙ t) .0))
-              ∙ ap (λ (x : Station). not (undisplaced p x)) read
-              ∙ sole-room p o (stationsIn w) sole within (omega (arith, count-long kept, few))
-
-          -- What displacing leaves: one without a hop on the ringlet, one less, or all as they were.
           pub displaced-clear : {w′ : List ℕ} {r : Bool} → b ≡ true → r ≡ unpurged (p .ringlet) (stationIn w o) → r ≡ true
               → w′ ≡ withHopIn (p .ringlet) o w → w′ ≡ rowsOf (displaced p (stationsIn w))
           displaced-clear t stays does e =
@@ -196,11 +188,6 @@ module _ {w : List ℕ} (kept : RowsHeld w) where
       pub displaced-past : getD w 0 0 ≤ o → w ≡ rowsOf (displaced p (stationsIn w))
       displaced-past past = rows-whole ∙ ap rowsOf (sym (sole-none p o (stationsIn w) sole (omega (arith, count-long kept))))
 
-      pub room-none : capacity ≤ getD w 0 0 → capacity ≤ o → false ≡ ltb (length (displaced p (stationsIn w))) capacity
-      room-none full past =
-          sym (le-ltb (length (displaced p (stationsIn w))) capacity
-          (rw (sole-none p o (stationsIn w) sole (omega (arith, few))) (omega (arith, count-long kept))))
-
     pub displaced-rows : {w′ : List ℕ} → w′ ≡ rowsOf (displaced p (stationsIn w)) → RowsHeld w′ × (stationsIn w′ ≡ displaced p (stationsIn w))
     unfolding displaced
     displaced-rows e =
@@ -213,46 +200,34 @@ module _ {w : List ℕ} (kept : RowsHeld w) where
         )
 
     -- A new station: the table after (e) has room ..
-    module _ {r : Bool} (is : r ≡ ltb (length (displaced p (stationsIn w))) capacity) where
-      module _ {w′ : List ℕ} (some : r ≡ true) (e : w′ ≡ rowsOf (displaced p (stationsIn w))) where
-        pub new-room : RowsHeld w′ × (length (stationsIn w′) < capacity)
-        new-room =
-            let (k, lives) = displaced-rows e in
-            let low : length (displaced p (stationsIn w)) < capacity = ltb-true (length (displaced p (stationsIn w))) capacity (sym is ∙ some) in
-            (k, rw lives low)
+    module _ {w′ : List ℕ} (e : w′ ≡ rowsOf (displaced p (stationsIn w))) where
+      pub new-room : length (displaced p (stationsIn w)) < capacity → RowsHeld w′ × (length (stationsIn w′) < capacity)
+      new-room low = let (k, lives) = displaced-rows e in (k, rw lives low)
 
-        pub new-placed : {w″ : List ℕ} {s : Station} → s ≡ newcomer p → w″ ≡ rowsOf (inserted s (stationsIn w′))
-            → left w″ 0 ≡ leftBy (placedNew p (stationsIn w))
-        unfolding placedNew
-        new-placed new put =
-            let (k, lives) = displaced-rows e in
-            let room : ltb (length (displaced p (stationsIn w))) capacity ≡ true = sym is ∙ some in
-            tell-both (placedNew p (stationsIn w)) (rw room, put ∙ rw (lives, new, room))
-
-        -- .. and where its count is as before, the place of the address is too.
-        module _ (at : ℕ) (rank : at ≡ rankOf (p .address) (stationsIn w)) {n m : ℕ} (long : n ≡ getD w 0 0) (long′ : m ≡ getD w′ 0 0)
-            (same : m ≡ n) where
-          rank-still : at ≡ rankOf (p .address) (stationsIn w′)
-          rank-still =
-              let (k, lives) = displaced-rows e in
-              let all : length (displaced p (stationsIn w)) ≡ length (stationsIn w) =
-              omega (arith, ap (λ (q : List Station). length q) lives, count-long k, count-long kept) in
-              rank ∙ sym (rank-same p (p .address) (stationsIn w) all) ∙ ap (rankOf (p .address)) (sym lives)
-
-          pub new-place : RowsHeld w′ × (length (stationsIn w′) < capacity) × (at ≤ length (stationsIn w′))
-          new-place = (new-room .0, new-room .1, omega (arith, rank-still, rank-low (p .address) (stationsIn w′)))
-
-          pub new-there : {w″ : List ℕ} {s : Station} → s ≡ newcomer p → w″ ≡ rowsOf (insertedAt at s (stationsIn w′))
-              → left w″ 0 ≡ leftBy (placedNew p (stationsIn w))
-          new-there {w″} {s} new put =
-              let a : at ≡ rankOf (s .address) (stationsIn w′) = rank-still ∙ ap (λ (q : Station). rankOf (q .address) (stationsIn w′)) (sym new) in
-              new-placed new (put ∙ ap (λ (i : ℕ). rowsOf (insertedAt i s (stationsIn w′))) a ∙ ap rowsOf (insert-is s (stationsIn w′)))
-
-      pub new-full : r ≡ false → left w 23 ≡ leftBy (placedNew p (stationsIn w))
+      pub new-placed : {w″ : List ℕ} {s : Station} → s ≡ newcomer p → w″ ≡ rowsOf (inserted s (stationsIn w′))
+          → left w″ 0 ≡ leftBy (placedNew p (stationsIn w))
       unfolding placedNew
-      new-full none =
-          let full : ltb (length (displaced p (stationsIn w))) capacity ≡ false = sym is ∙ none in
-          tell-both (placedNew p (stationsIn w)) (rw full, rw full rows-whole)
+      new-placed new put = let (k, lives) = displaced-rows e in tell-both (placedNew p (stationsIn w)) (refl, put ∙ rw (lives, new))
+
+      -- .. and where its count is as before, the place of the address is too.
+      module _ (at : ℕ) (rank : at ≡ rankOf (p .address) (stationsIn w)) {n m : ℕ} (long : n ≡ getD w 0 0) (long′ : m ≡ getD w′ 0 0)
+          (same : m ≡ n) where
+        rank-still : at ≡ rankOf (p .address) (stationsIn w′)
+        rank-still =
+            let (k, lives) = displaced-rows e in
+            let all : length (displaced p (stationsIn w)) ≡ length (stationsIn w) =
+            omega (arith, ap (λ (q : List Station). length q) lives, count-long k, count-long kept) in
+            rank ∙ sym (rank-same p (p .address) (stationsIn w) all) ∙ ap (rankOf (p .address)) (sym lives)
+
+        pub new-place : length (displaced p (stationsIn w)) < capacity
+            → RowsHeld w′ × (length (stationsIn w′) < capacity) × (at ≤ length (stationsIn w′))
+        new-place low = (new-room low .0, new-room low .1, omega (arith, rank-still, rank-low (p .address) (stationsIn w′)))
+
+        pub new-there : {w″ : List ℕ} {s : Station} → s ≡ newcomer p → w″ ≡ rowsOf (insertedAt at s (stationsIn w′))
+            → left w″ 0 ≡ leftBy (placedNew p (stationsIn w))
+        new-there {w″} {s} new put =
+            let a : at ≡ rankOf (s .address) (stationsIn w′) = rank-still ∙ ap (λ (q : Station). rankOf (q .address) (stationsIn w′)) (sym new) in
+            new-placed new (put ∙ ap (λ (i : ℕ). rowsOf (insertedAt i s (stationsIn w′))) a ∙ ap rowsOf (insert-is s (stationsIn w′)))
 
     pub new-report : found (p .address) (stationsIn w) ≡ Nothing → placed p (stationsIn w) ≡ placedNew p (stationsIn w)
     unfolding placed

@@ -11,9 +11,9 @@ use Rattle.stations.specs.Station.{Station, placedSomewhere, withHop, at
 use Rattle.stations.specs.Stations.{capacity, unpurged, purged, given}
 use Rattle.stations.specs.Kept.{StationKept, StationsKept, Apart}
 use Rattle.stations.specs.Table.{Each, Ascending, At, blank, found}
-use Rattle.stations.specs.Rows.{stationsIn, rowsOf, InRange, RowsKept, left, leftBy}
+use Rattle.stations.specs.Rows.{stationsIn, rowsOf, InRange, Near, RowsKept, left, leftBy}
 use Rattle.stations.proofs.Lists.{each-map}
-use Rattle.stations.proofs.Hops.{cleared-lowers}
+use Rattle.stations.proofs.Hops.{near-set, cleared-lowers}
 use Rattle.stations.proofs.Sifting.{sifted-each, sifted-all, sifted-apart, purged-ascending, purged-length}
 use Rattle.stations.proofs.Places.{found-stands, set-renewed}
 use Rattle.stations.proofs.Words.{stations-of, rows-held}
@@ -37,10 +37,10 @@ bytes-fit K true x e f =
 
 -- Words that hold a list of which so much is known are kept, and hold the list.
 rows-kept : (l : List Station) → length l ≤ capacity → Ascending l → Each InRange l → ((ringlet : ℕ) → Apart ringlet l)
-    → Each (λ (s : Station). placedSomewhere s ≡ true) l → RowsKept (rowsOf l) × (stationsIn (rowsOf l) ≡ l)
-rows-kept l few up ranged apart heard =
+    → Each (λ (s : Station). placedSomewhere s ≡ true) l → Each Near l → RowsKept (rowsOf l) × (stationsIn (rowsOf l) ≡ l)
+rows-kept l few up ranged apart heard near =
     let same : stationsIn (rowsOf l) ≡ l = stations-of l ranged in
-    (record { held = rows-held l few up ranged; apart = λ r. rw same (apart r); heard = rw same heard }, same)
+    (record { held = rows-held l few up ranged; apart = λ r. rw same (apart r); heard = rw same heard; near = rw same near }, same)
 
 module _ (own forget : ℕ) (K : List ℕ) (low : forget ≤ 2 ^ 16) where
   pub station-ranged : (s : Station) → StationKept own forget K s → InRange s
@@ -69,6 +69,7 @@ module _ (own forget : ℕ) (K : List ℕ) (low : forget ≤ 2 ^ 16) where
   stations-rows l k =
       rows-kept l (k .few) (k .ascending) (stations-ranged l k) (k .apart)
       (each-map (StationKept own forget K) (λ (s : Station). placedSomewhere s ≡ true) (λ s q. q .somewhere) l (k .each))
+      (each-map (StationKept own forget K) Near (λ s q. (q .hop0, q .hop1)) l (k .each))
 
   -- .. and words that are those of their stations.
   pub whole-rows : {w : List ℕ} → w ≡ rowsOf (stationsIn w) → StationsKept own forget K (stationsIn w) → RowsKept w
@@ -89,7 +90,8 @@ module _ {w : List ℕ} (k : RowsKept w) where
       (purged-ascending ringlet l (k .held .table .ascending))
       (sifted-each (unpurged ringlet) (withHop ringlet 0) InRange InRange (λ s r h. hop-ranged ringlet 0 s (omega arith) r) l (k .held .ranges))
       (λ r. sifted-apart (unpurged ringlet) (withHop ringlet 0) r (cleared-lowers ringlet r) l (k .apart r))
-      (sifted-all (unpurged ringlet) (withHop ringlet 0) (λ (s : Station). placedSomewhere s ≡ true) (λ s stays. stays) l))
+      (sifted-all (unpurged ringlet) (withHop ringlet 0) (λ (s : Station). placedSomewhere s ≡ true) (λ s stays. stays) l)
+      (sifted-each (unpurged ringlet) (withHop ringlet 0) Near Near (λ s near h. near-set ringlet 0 s (omega arith) near) l (k .near)))
 
   -- Attributes stored at the place of an address are given to its station.
   pub given-at : (a : ℕ) (x : Attributes) (at : ℕ) → found a (stationsIn w) ≡ At at

@@ -6,7 +6,7 @@ use mathlib.Core.Bool.{true, cond}
 use mathlib.Core.List.{List, [], _∷_, _++_}
 use lib.ListN.{length, take, drop, getD, set}
 use lib.Dec.{eqb}
-use Rattle.stations.specs.Station.{Station, placedSomewhere}
+use Rattle.stations.specs.Station.{Station, farthest, placedSomewhere}
 use Rattle.stations.specs.Stations.{aged}
 use Rattle.stations.specs.Hearing.{Placed}
 use Rattle.stations.specs.Table.{Table, TableKept, Each, live, tableOf}
@@ -91,17 +91,22 @@ pub record InRange (s : Station) : Type 0 where
   pub weight0 : s .weight0 < 2 ^ 8
   pub weight1 : s .weight1 < 2 ^ 8
 
+-- Neither hop is beyond the farthest.
+abbrev pub Near : Station → Type 0
+Near s = (s .hop0 ≤ farthest) × (s .hop1 ≤ farthest)
+
 -- Words that hold a table and nothing else.
 pub record RowsHeld (w : List ℕ) : Type 0 where
   pub table : TableKept (tableIn w)
   pub whole : w ≡ image (tableIn w)
   pub ranges : Each InRange (stationsIn w)
 
--- What a function of the words asks of them: also that no two stations share a hop, and that each has one.
+-- What a function of the words asks of them: also that no two stations share a hop, that each has one, and that none is beyond the farthest.
 pub record RowsKept (w : List ℕ) : Type 0 where
   pub held : RowsHeld w
   pub apart : (ringlet : ℕ) → Apart ringlet (stationsIn w)
   pub heard : Each (λ (s : Station). placedSomewhere s ≡ true) (stationsIn w)
+  pub near : Each Near (stationsIn w)
 
 -- The words that are left and the result, as one value.
 pub record Left : Type 0 where

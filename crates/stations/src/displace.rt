@@ -1,7 +1,6 @@
 // Step (e) of a report heard. No two stations share a hop, so that one station at most is another at the report's hop.
 use crate::insert::remove_at;
 use crate::purge::remains_in;
-use crate::rows::PLACES;
 use crate::rows::ROW_WORDS;
 use crate::rows::address_in;
 use crate::rows::count;
@@ -11,21 +10,18 @@ use crate::station::Report;
 use crate::station::side;
 ghost use mathlib.Core.Path.{_≡_};
 ghost use Prim.Native.Nat.{_<_};
-ghost use lib.Dec.{ltb};
-ghost use lib.ListN.{length};
+ghost use mathlib.Core.Bool.{true};
 ghost use Rattle.stations.specs.Stations.{capacity, otherAt, displaced};
+ghost use Rattle.stations.specs.Station.{isHop};
 ghost use Rattle.stations.specs.Steps.{Sole};
 ghost use Rattle.stations.specs.Rows.{RowsHeld, RowsKept, stationIn, withHopIn, stationsIn, rowsOf};
 
-// The place of a station at the report's hop, or the number of stations. Hop 0 is nobody's.
+// The place of the station at the report's hop, or the number of stations.
 pub(crate) fn holder(rows: &[u64; ROW_WORDS], p: Report) -> usize
-    requires { ⌜ RowsKept (now rows) ⌝ }
+    requires { ⌜ RowsKept (now rows) × (isHop (p .hop) ≡ true) ⌝ }
     ensures { λ r. ⌜ Sole p r (stationsIn (now (rows .entry))) ⌝ }
 {
     let n = count(rows);
-    if p.hop == 0 {
-        return n;
-    }
     let mut i: usize = 0;
     while i < n {
         if hop_in(rows, i, p.ringlet) == p.hop {
@@ -55,22 +51,6 @@ fn clear_hop(rows: &mut [u64; ROW_WORDS], at: usize, ringlet: u8)
     let hop0 = side(ringlet, 0, hop_in(rows, at, 0));
     let hop1 = side(ringlet, hop_in(rows, at, 1), 0);
     put_hops(rows, at, hop0, hop1);
-}
-
-// A place is free after step (e), where only the station at a place may be another at the report's hop.
-pub(crate) fn has_room(rows: &[u64; ROW_WORDS], o: usize, p: Report) -> bool
-    requires { ⌜ RowsHeld (now rows) × Sole p o (stationsIn (now rows)) ⌝ }
-    ensures { λ r. ⌜ r ≡ ltb (length (displaced p (stationsIn (now (rows .entry))))) capacity ⌝ }
-{
-    if count(rows) < PLACES {
-        return true;
-    }
-    if o < PLACES {
-        if is_other(rows, o, p) {
-            return !remains_in(rows, o, p.ringlet);
-        }
-    }
-    false
 }
 
 // Any other station at the report's hop of its ringlet loses that hop, and leaves if it has none left: only the one at a place may be such.

@@ -27,6 +27,7 @@ pub use purge::purge_ringlet;
 pub use rows::PLACES;
 pub use rows::ROW_WORDS;
 pub use rows::clear_table;
+pub use station::FARTHEST_HOP;
 pub use station::Report;
 pub use station::Station;
 pub use station::side;

@@ -12,11 +12,11 @@ ghost use Rattle.stations.specs.Station.{hop, attributesIn};
 ghost use Rattle.stations.specs.Stations.{capacity};
 ghost use Rattle.stations.specs.Rows.{unpacked, word0, word1, word2, withHopsIn, stationIn, putIn, copied, olderAt, movedOlder, hopsAt, movedHops, rowsOf};
 
-// The most stations.
-pub const PLACES: usize = 63;
+// The most stations: one for each hop of each ringlet.
+pub const PLACES: usize = 126;
 
 // The words of a table: one, and three for each of the places.
-pub const ROW_WORDS: usize = 190;
+pub const ROW_WORDS: usize = PLACE * PLACES + 1;
 
 // The words of a place, and those of the first place: they stand behind the number of stations.
 const PLACE: usize = 3;

@@ -25,6 +25,4 @@ pub const SPAN_DOWN: u8 = 21;
 
 pub const OLD_REPORT: u8 = 22;
 
-pub const NO_PLACE: u8 = 23;
-
 pub const SET_ASIDE: u8 = 24;

@@ -16,7 +16,7 @@ use crate::probe::probe;
 use crate::script::Script;
 use crate::shorten::shorten;
 use crate::subject::{right, Subject};
-use crate::tally::Tally;
+use crate::tally::{Tally, OTHER};
 use crate::voice::{tell, warn};
 
 /// Time between two progress lines.
@@ -73,6 +73,11 @@ pub fn contest(subject: &dyn Subject, options: &Options) -> Result<bool, String>
         options.jobs
     ));
     match found {
+        // Both said what no rule gives, such as a result that is no more.
+        None if tally.of(OTHER) > 0 => {
+            tell(format!("{} lines are none of the rules", tally.of(OTHER)));
+            Ok(false)
+        }
         None => {
             tell(format!("all agreed, seeds from {}", options.from));
             Ok(true)

@@ -9,10 +9,12 @@ use text::source::{Source, WORKED};
 use text::writing;
 
 use crate::chance::Chance;
+use crate::crowds;
 use crate::maker::Maker;
 use crate::many;
 use crate::opening::{self, Opening};
 use crate::reach;
+use crate::ring::LARGEST;
 use crate::scenes;
 use crate::script::{end, Script};
 use crate::subject::{right, Subject};
@@ -55,7 +57,7 @@ impl Subject for Drills {
     }
 
     fn nothing(&self) -> Tally {
-        let labels = [&LABELS[..], &ways::LABELS, &many::LABELS];
+        let labels = [&LABELS[..], &ways::LABELS, &many::LABELS, &crowds::LABELS];
         Tally::new(self.word(), &labels.concat())
     }
 
@@ -105,7 +107,7 @@ fn drill(seed: u64) -> Script {
 fn play(mut chance: Chance, budget: usize, settings: Option<Bytes>) -> Script {
     let opening = Opening::new(&mut chance);
     let small = chance.range(2, 8);
-    let large = chance.range(9, 63);
+    let large = chance.range(9, LARGEST);
     let stations = chance.pick(&[small, small, small, 1, large]);
     let mut maker = Maker::new(chance, opening, stations);
     while maker.length() < budget {
@@ -122,7 +124,7 @@ fn play(mut chance: Chance, budget: usize, settings: Option<Bytes>) -> Script {
 }
 
 /// What is counted beside kind 7 and the numbers of a way: results of full lines, replies, refused settings, ends, and more.
-const LABELS: [&str; 24] = [
+const LABELS: [&str; 23] = [
     "result 0",
     "result 3",
     "result 4",
@@ -133,7 +135,6 @@ const LABELS: [&str; 24] = [
     "result 20",
     "result 21",
     "result 22",
-    "result 23",
     "result 24",
     "way 0",
     "way 1",
@@ -335,15 +336,42 @@ mod tests {
     }
 
     #[test]
+    fn many_drills_crowd_the_table() {
+        let sum = reached();
+        let least = [
+            (crowds::INPUTS, 50),
+            (crowds::FULL, 10_000),
+            (crowds::ABOVE_63, 5_000),
+            (crowds::AT_FULL, 300),
+            (crowds::FREE_HOP, 100),
+            (crowds::OTHER_STAYS, 80),
+            (crowds::SECOND_HOP, 150),
+            (crowds::OLD, 40),
+            (crowds::MARK_CLEARED, 80),
+            (crowds::PURGED, 20),
+            (crowds::FORGOTTEN, 20),
+            (crowds::ATTRIBUTES, 150),
+            (crowds::LAST_ATTRIBUTES, 35),
+            (crowds::WAY, 1_000),
+            (crowds::LAST_WAY, 200),
+            (crowds::ONE_RING, 10),
+        ];
+        for (label, least) in least {
+            assert!(sum.of(label) > least, "{label}: {}", sum.of(label));
+        }
+    }
+
+    #[test]
     fn each_sort_of_line_has_its_count() {
         let said = b"1 0 4 0 1 0 5\n2 way 3 0 0 0\n3 4\n4 22 0 0 1 0 1\n5 2\n";
         let mut sum = tally(said);
         sum.add(&tally(b"settings 4\n"));
-        sum.add(&tally(b"1 1 0 0 0 0 0\nwhat\n"));
-        assert_eq!((sum.inputs, sum.lines), (3, 8));
+        // Results 1 and 23 are none of a drill.
+        sum.add(&tally(b"1 1 0 0 0 0 0\n2 23 0 0 0 63 0\nwhat\n"));
+        assert_eq!((sum.inputs, sum.lines), (3, 9));
         assert_eq!((sum.of("result 0"), sum.of("result 22")), (1, 1));
         assert_eq!((sum.of("way 3"), sum.of("settings 4")), (1, 1));
         assert_eq!((sum.of(END), sum.of(REFUSED_QUESTION)), (1, 1));
-        assert_eq!((sum.of(REPORTS), sum.of(OTHER)), (6, 2));
+        assert_eq!((sum.of(REPORTS), sum.of(OTHER)), (6, 3));
     }
 }

@@ -30,6 +30,8 @@ pub struct Maker {
     silent: [usize; 2],
     /// Ticks that shared a record.
     shared: usize,
+    /// Records that do not count when a drill's length is counted.
+    spared: usize,
 }
 
 impl Maker {
@@ -43,6 +45,7 @@ impl Maker {
             records: Vec::new(),
             silent: [0; 2],
             shared: 0,
+            spared: 0,
         }
     }
 
@@ -69,7 +72,12 @@ impl Maker {
 
     /// How long the drill is by now: its records, and some more for ticks that share one.
     pub fn length(&self) -> usize {
-        self.records.len() + self.shared / AS_A_RECORD
+        self.records.len() - self.spared + self.shared / AS_A_RECORD
+    }
+
+    /// Of the records since there were so many, most do not count, so that a long scene leaves time for others.
+    pub fn spare_since(&mut self, records: usize) {
+        self.spared += (self.records.len() - records) * 3 / 4;
     }
 
     /// West or east.

@@ -27,15 +27,20 @@ pub struct Counter {
 }
 
 impl Counter {
-    /// Gives a record to the node, and counts it if it is of kind 7.
-    pub fn give(&mut self, node: &mut Node, record: &[u8], tally: &mut Tally) {
+    /// Gives a record to the node, and counts it if it is of kind 7; the result.
+    pub fn give(&mut self, node: &mut Node, record: &[u8], tally: &mut Tally) -> u8 {
         let before = (requests(node), node.station_count());
         let (result, reports) = node.record(record, &mut [0; OUTPUT_ROOM]);
         match (record, result) {
-            ([_, _, 7, 0, ..], 0) => {}
-            ([_, _, 7, 0, ..], 4) => return tally.count(REFUSED),
-            _ => return,
+            ([_, _, 7, 0, ..], 0) => self.taken(node, before, reports, tally),
+            ([_, _, 7, 0, ..], 4) => tally.count(REFUSED),
+            _ => {}
         }
+        result
+    }
+
+    /// Counts what was taken; the node had these requests and stations before it.
+    fn taken(&mut self, node: &Node, before: ([u8; 2], usize), reports: usize, tally: &mut Tally) {
         tally.count(TAKEN);
         let (pair, stations) = before;
         for (label, is_so) in [

@@ -4,7 +4,7 @@ use model::Node;
 use text::pieces::pieces;
 
 use crate::tally::Tally;
-use crate::{many, swings, ways};
+use crate::{crowds, many, swings, ways};
 
 /// Counts what a drill reaches.
 pub fn count(input: &[u8], tally: &mut Tally) {
@@ -16,10 +16,15 @@ pub fn count(input: &[u8], tally: &mut Tally) {
     }
     let mut swings = swings::Counter::default();
     let mut many = many::Counter::default();
+    let mut crowds = crowds::Counter::default();
     for record in &pieces[1..] {
         ways::count(&node, record, tally);
-        let before = node.links();
-        many.give(&mut node, record, tally);
-        swings.see(before, node.links(), tally);
+        let links = node.links();
+        let before = crowds::Before::of(&node);
+        let result = many.give(&mut node, record, tally);
+        swings.see(links, node.links(), tally);
+        if let Some(before) = before {
+            crowds.see(&before, record, result, &node, tally);
+        }
     }
 }

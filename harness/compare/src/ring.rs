@@ -5,8 +5,12 @@ use text::records::Report;
 
 use crate::chance::Chance;
 
-/// The greatest number of stations beside the own one.
-pub const LARGEST: usize = 63;
+/// The greatest hop.
+pub const HIGHEST_HOP: usize = 63;
+/// The greatest number of stations beside the own one on a ring, each with a hop either way.
+pub const LARGEST: usize = HIGHEST_HOP;
+/// The places of the table: as many as two ringlets have hops, all held by different stations.
+pub const PLACES: usize = 126;
 
 /// A station of the ring.
 #[derive(Clone, Debug)]
@@ -155,12 +159,12 @@ mod tests {
     #[test]
     fn addresses_are_even_and_unique() {
         let mut chance = Chance::new(2);
-        let ring = Ring::new(&mut chance, 0x0200_0000_0001, 63);
+        let ring = Ring::new(&mut chance, 0x0200_0000_0001, LARGEST);
         let mut all: Vec<u64> = ring.members.iter().map(|m| m.address).collect();
         all.push(0x0200_0000_0001);
         assert!(all.iter().all(|address| address >> 40 & 1 == 0));
         all.sort_unstable();
         all.dedup();
-        assert_eq!(all.len(), 64);
+        assert_eq!(all.len(), LARGEST + 1);
     }
 }

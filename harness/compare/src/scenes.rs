@@ -5,9 +5,10 @@ use text::records::{self, Report};
 
 use crate::blocks;
 use crate::chance::Chance;
+use crate::joining;
 use crate::maker::{Maker, NONE_DEAF};
 use crate::owed;
-use crate::ring::{self, LARGEST};
+use crate::ring::{self, HIGHEST_HOP, LARGEST};
 use crate::trouble;
 use crate::wild;
 
@@ -15,7 +16,7 @@ use crate::wild;
 pub type Scene = fn(&mut Maker);
 
 /// Scenes and how often each comes.
-const SCENES: [(usize, Scene); 21] = [
+const SCENES: [(usize, Scene); 22] = [
     (8, learn),
     (10, quarrel),
     (7, displace),
@@ -24,11 +25,12 @@ const SCENES: [(usize, Scene); 21] = [
     (5, silence),
     (7, cross),
     (5, fill),
+    (7, joining::join),
     (4, wait),
     (5, forget),
     (4, pace),
     (6, hold),
-    (6, dirty),
+    (8, dirty),
     (2, wrap),
     (7, owed::spell),
     (7, trouble::along),
@@ -72,7 +74,7 @@ fn sequence(chance: &mut Chance, stored: u8) -> u8 {
 
 /// A hop near the one that is right, or any.
 fn hop_near(chance: &mut Chance, right: usize, members: usize) -> usize {
-    let any = chance.range(1, LARGEST);
+    let any = chance.range(1, HIGHEST_HOP);
     let inside = chance.range(1, members);
     let near = [
         right,
@@ -83,7 +85,7 @@ fn hop_near(chance: &mut Chance, right: usize, members: usize) -> usize {
         inside,
         any,
     ];
-    chance.pick(&near).min(LARGEST)
+    chance.pick(&near).min(HIGHEST_HOP)
 }
 
 /// Reports with sequences of every distance, copies with other requests, hops that move.
@@ -255,7 +257,7 @@ fn while_crossed(m: &mut Maker, span: usize) {
     }
 }
 
-/// All 63 places are taken on one ringlet; then newcomers and second hops come.
+/// All 63 hops of one ringlet are held; then newcomers and second hops come, for which there are places.
 pub fn fill(m: &mut Maker) {
     let ringlet = m.span();
     m.ring.grow(&mut m.chance, LARGEST);
@@ -281,7 +283,7 @@ pub fn fill(m: &mut Maker) {
     m.ring.members.truncate(left);
 }
 
-/// A stranger takes a member's hop; whether it gets in depends on the member's other hop.
+/// A stranger takes a member's hop; whether the member leaves depends on its other hop.
 fn newcomer(m: &mut Maker, ringlet: usize) {
     let at = m.ring.any(&mut m.chance);
     let on = m.chance.pick(&[ringlet, ringlet, 1 - ringlet]);
@@ -300,7 +302,7 @@ fn newcomer(m: &mut Maker, ringlet: usize) {
     }
 }
 
-/// A crossed neighbour, then a stranger as the right one: no place, but the mark goes.
+/// A crossed neighbour, then a stranger as the right one beside 63 others: it is taken, and the mark goes.
 fn crossed_newcomer(m: &mut Maker, ringlet: usize) {
     let span = 1 - ringlet;
     let neighbour = m.ring.at_hop(1, span);

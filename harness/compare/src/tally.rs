@@ -45,7 +45,6 @@ impl Tally {
     }
 
     /// How often a label was counted.
-    #[cfg(test)]
     pub fn of(&self, label: &str) -> u64 {
         let row = self.rows.iter().find(|(name, _)| *name == label);
         row.map_or(0, |(_, count)| *count)

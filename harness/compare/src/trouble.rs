@@ -44,7 +44,7 @@ pub fn along(m: &mut Maker) {
     }
 }
 
-/// Both cables are crossed, so that nobody is left in the table and all members find a place.
+/// Both cables are crossed, so that nobody is left in the table.
 fn empty(m: &mut Maker) {
     for span in 0..2 {
         let neighbour = m.ring.at_hop(1, span);

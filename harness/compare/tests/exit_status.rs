@@ -56,6 +56,18 @@ fn a_difference_is_1_and_the_short_drill_still_differs() {
 }
 
 #[test]
+fn a_result_that_is_no_more_is_a_difference() {
+    let place = Place::new("no-more");
+    let wrong = program("places-63");
+    let output = place.run(&["--drill", &wrong, "--count", "60", "--keep", "kept"]);
+    assert_eq!(output.status.code(), Some(1));
+    let text = said(&output);
+    let line = text.lines().find(|line| line.starts_with("  drill: "));
+    let words: Vec<&str> = line.unwrap().split(' ').collect();
+    assert!(words.contains(&"23"), "{text}");
+}
+
+#[test]
 fn accepted_lines_stand_in_the_text() {
     let place = Place::new("accept");
     let file = place.path().join("a.drill");

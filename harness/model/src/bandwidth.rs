@@ -2,9 +2,10 @@
 //! A station that is behind shows no reservations, so there are no numbers as long as one is.
 
 use crate::blocks::Attributes;
+use crate::crowding::is_hidden;
 use crate::faults::{wrong, Fault};
 use crate::records::BAD_FIELD;
-use crate::stations::{Station, Table, PLACES};
+use crate::stations::{Station, Table};
 
 /// A station is behind.
 const BEHIND: u8 = 31;
@@ -80,8 +81,11 @@ fn is_rate<const F: u8>(rate: u32) -> bool {
 
 /// The lowest address of a station that is behind.
 fn behind<const F: u8>(table: &Table) -> Option<u64> {
-    let behind = table.stations().iter().filter(|at| is_behind::<F>(at));
-    let addresses = behind.map(|station| station.address);
+    let [high, last] = [Fault::HighBehindPassedOver, Fault::LastBehindPassedOver];
+    let stations = table.stations().iter().enumerate();
+    let looked_at = stations.filter(|(at, _)| !is_hidden::<F>(high, last, *at));
+    let behind = looked_at.filter(|(_, station)| is_behind::<F>(station));
+    let addresses = behind.map(|(_, station)| station.address);
     if wrong::<F>(Fault::HighestBehind) {
         addresses.max()
     } else {
@@ -116,13 +120,20 @@ fn numbers<const F: u8>(table: &Table, rate: u32, own: [u16; 2]) -> Free {
     let left = |ringlet| i64::from(rate) - i64::from(own[ringlet]) - reserved[ringlet];
     let ringlets = [left(0), left(1)];
     Free {
-        ringlets: if wrong::<F>(Fault::FreeNotBelowZero) {
-            ringlets.map(|free| free.max(0))
-        } else {
-            ringlets
-        },
+        ringlets: ringlets.map(|free| free.max(lowest::<F>())),
         defect: defect::<F>(ringlets),
         ..Free::default()
+    }
+}
+
+/// The lowest number given. All places and the own node reserve no more than a signed number of 64 bits holds.
+fn lowest<const F: u8>() -> i64 {
+    if wrong::<F>(Fault::FreeNotBelowZero) {
+        0
+    } else if wrong::<F>(Fault::LowestOf63) {
+        -64 * i64::from(u16::MAX)
+    } else {
+        i64::MIN
     }
 }
 
@@ -147,11 +158,13 @@ fn defect<const F: u8>(ringlets: [i64; 2]) -> bool {
 /// The reservations of all stations on each ringlet.
 fn reserved<const F: u8>(table: &Table) -> [i64; 2] {
     let mut sums = [0; 2];
-    let places = PLACES - usize::from(wrong::<F>(Fault::LastPlaceLeftOut));
-    for station in table.stations().iter().take(places) {
+    for (at, station) in table.stations().iter().enumerate() {
         let Attributes::Known(values) = station.attributes else {
             continue;
         };
+        if is_hidden::<F>(Fault::HighPlacesLeftOut, Fault::LastPlaceLeftOut, at) {
+            continue;
+        }
         for (ringlet, sum) in sums.iter_mut().enumerate() {
             let from = if wrong::<F>(Fault::ReservedSwapped) {
                 1 - ringlet

@@ -57,7 +57,7 @@ impl<const F: u8, const T: u8> Program<F> for Drill<T> {
         };
         let (result, reports) = node.record(record, &mut [0; OUTPUT_ROOM][..room]);
         let (west, east) = (node.west_request(), node.east_request());
-        let (sequence, stations) = (node.sequence(), node.station_count());
+        let (sequence, stations) = (node.sequence(), shown::<F>(node.station_count()));
         writeln!(
             output,
             "{number} {result} {west} {east} {sequence} {stations} {reports}"
@@ -100,6 +100,17 @@ impl<const T: u8> Drill<T> {
         }
         self.last = way;
         way
+    }
+}
+
+/// The number of stations in a line.
+fn shown<const F: u8>(stations: usize) -> usize {
+    if wrong::<F>(Fault::StationsShownTo63) {
+        stations.min(63)
+    } else if wrong::<F>(Fault::StationsInSixBits) {
+        stations % 64
+    } else {
+        stations
     }
 }
 

@@ -10,7 +10,7 @@ use crate::pacer::Pacer;
 use crate::records::{self, Event, Report, REPORT_BYTES};
 use crate::settings::Settings;
 use crate::spans::{Request, Span, Status};
-use crate::stations::Table;
+use crate::stations::{Table, PLACES};
 use crate::telling;
 use crate::ways::{self, Way};
 
@@ -132,7 +132,12 @@ impl<const F: u8> NodeOf<F> {
 
     /// A report heard: refusals 5 and 6, steps (a) to (c), then the table's steps.
     fn heard(&mut self, report: &Report) -> u8 {
-        let too_high = report.hop > records::HIGHEST_HOP;
+        let highest = if wrong::<F>(Fault::HopsTo126) {
+            PLACES as u8
+        } else {
+            records::HIGHEST_HOP
+        };
+        let too_high = report.hop > highest;
         if wrong::<F>(Fault::HopBeforeOwn) && too_high {
             return records::HOP_TOO_HIGH;
         }
@@ -170,6 +175,12 @@ impl<const F: u8> NodeOf<F> {
         if down && !wrong::<F>(Fault::UnknownBeforeDown) {
             return records::SPAN_DOWN;
         }
+        let [high, last] = [Fault::HighNoAttributes, Fault::LastNoAttributes];
+        if !down && self.table.hides::<F>(high, last, address) {
+            return records::UNKNOWN_STATION;
+        }
+        let [high, last] = [Fault::HighNotStored, Fault::LastNotStored];
+        let unstored = self.table.hides::<F>(high, last, address);
         let Some(station) = self.table.find_mut(address) else {
             return records::UNKNOWN_STATION;
         };
@@ -179,7 +190,9 @@ impl<const F: u8> NodeOf<F> {
         let Reading::Whole(attributes) = blocks::read::<F>(self.settings.level, block) else {
             return records::MALFORMED;
         };
-        station.replace::<F>(attributes);
+        if !unstored {
+            station.replace::<F>(attributes);
+        }
         if wrong::<F>(Fault::AttributesRenew) {
             station.age = 0;
         }
@@ -202,9 +215,9 @@ impl<const F: u8> NodeOf<F> {
         }
         for ringlet in 0..2 {
             if self.is_down(ringlet) {
-                self.table.purge(ringlet);
+                self.table.purge::<F>(ringlet);
                 if wrong::<F>(Fault::PurgeBoth) {
-                    self.table.purge(1 - ringlet);
+                    self.table.purge::<F>(1 - ringlet);
                 }
             }
         }

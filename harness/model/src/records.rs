@@ -28,8 +28,6 @@ pub const WRONG_RINGLET: u8 = 20;
 pub const SPAN_DOWN: u8 = 21;
 /// Old report.
 pub const OLD_REPORT: u8 = 22;
-/// No place.
-pub const NO_PLACE: u8 = 23;
 /// Block set aside.
 pub const SET_ASIDE: u8 = 24;
 

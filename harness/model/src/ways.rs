@@ -2,6 +2,7 @@
 //! A walk needs every hop up to the station; the worst request on it must be below SF.
 //! Of the way chosen the operator is told how long it is, and where the trouble is.
 
+use crate::crowding::is_hidden;
 use crate::faults::{wrong, Fault, RIGHT};
 use crate::records::HIGHEST_HOP;
 use crate::spans::Request;
@@ -48,7 +49,8 @@ pub type Ends = [Request; 2];
 
 /// The answer to "which way?", given the own west and east request.
 pub fn steer<const F: u8>(table: &Table, own: [Request; 2], address: u64) -> Way {
-    let Some(target) = table.find(address) else {
+    let hidden = table.hides::<F>(Fault::HighNotSteered, Fault::LastNotSteered, address);
+    let Some(target) = table.find(address).filter(|_| !hidden) else {
         return Way::none(NOT_IN_TABLE);
     };
     let walk = |ringlet| walk::<F>(table, own, ringlet, target);
@@ -129,7 +131,7 @@ pub fn run<const F: u8>(table: &Table, own: [Request; 2], ringlet: usize) -> Vec
         own[ringlet]
     };
     let mut spans = Vec::new();
-    for held in &chain(table, ringlet)[1..] {
+    for held in &chain::<F>(table, ringlet)[1..] {
         let (far, next) = match held {
             Some(station) => (station.requests[1 - ringlet], station.requests[ringlet]),
             None if wrong::<F>(Fault::GapsAllowed) => (Request::Idle, near),
@@ -147,10 +149,15 @@ pub fn runs(table: &Table, own: [Request; 2]) -> [Vec<Request>; 2] {
 }
 
 /// Slot 0 gathers the stations not heard on this ringlet; nobody looks at it.
-fn chain(table: &Table, ringlet: usize) -> Chain<'_> {
+fn chain<const F: u8>(table: &Table, ringlet: usize) -> Chain<'_> {
     let mut chain: Chain = [None; HIGHEST_HOP as usize + 1];
-    for station in table.stations() {
-        chain[usize::from(station.hops[ringlet])] = Some(station);
+    for (at, station) in table.stations().iter().enumerate() {
+        let hidden = is_hidden::<F>(Fault::HighNotWalked, Fault::LastNotWalked, at);
+        // Only a wrong model has a hop without a slot.
+        let slot = chain.get_mut(usize::from(station.hops[ringlet]));
+        if let (Some(slot), false) = (slot, hidden) {
+            *slot = Some(station);
+        }
     }
     chain
 }

@@ -182,8 +182,41 @@ fn the_lowest_numbers_there_are() {
     // 63 stations and the own one: 64 times 65,535 is 4,194,240.
     let given = node.free_bandwidth(0, [65_535, 65_535]);
     assert_eq!(given, free(-4_194_240, -4_194_240, true));
+    for hop in 1..=63 {
+        hear(&mut node, hop + 64, 1, hop);
+        reserve(&mut node, hop + 64, [65_535, 65_535]);
+    }
+    // 126 stations and the own one: 127 times 65,535 is 8,322,945.
+    assert_eq!(node.station_count(), 126);
+    let given = node.free_bandwidth(0, [65_535, 65_535]);
+    assert_eq!(given, free(-8_322_945, -8_322_945, true));
     let given = node.free_bandwidth(65_535, [65_535, 0]);
-    assert_eq!(given, free(-4_128_705, -4_063_170, true));
+    assert_eq!(given, free(-8_257_410, -8_191_875, true));
+}
+
+#[test]
+fn every_one_of_126_places_counts_and_may_be_behind() {
+    let mut node = started(2);
+    for hop in 1..=63 {
+        hear(&mut node, hop + 1, 0, hop);
+        hear(&mut node, hop + 64, 1, hop);
+    }
+    for last in 2..=127 {
+        reserve(&mut node, last, [u16::from(last), 1_000 + u16::from(last)]);
+    }
+    // 2 + 3 + .. + 127 is 8,127; and 126 times 1,000 more.
+    let given = node.free_bandwidth(65_535, [0, 0]);
+    assert_eq!(given, free(57_408, -68_592, true));
+    for last in 2..=127 {
+        assert_eq!(block(&mut node, last, &UNKNOWN), 24);
+        let given = node.free_bandwidth(65_535, [0, 0]);
+        assert_eq!(given, refused(31, address(last)), "{last}");
+        reserve(&mut node, last, [0, 0]);
+        let left = i64::from((last + 1..=127).map(u32::from).sum::<u32>());
+        let given = node.free_bandwidth(65_535, [0, 0]);
+        assert_eq!(given.ringlets[0], 65_535 - left, "{last}");
+    }
+    assert_eq!(node.free_bandwidth(0, [0, 0]), free(0, 0, false));
 }
 
 #[test]

@@ -52,7 +52,7 @@ fn random_records() {
         }
         let room = [6, 7, 7, 7, 20, 70, 7_000, 7_000][chance.below(8) as usize];
         node.record(&record, &mut vec![0; room]);
-        assert!(node.station_count() <= 63);
+        assert!(node.station_count() <= 126);
         let address = chance.next() >> chance.below(64);
         node.steer(address);
         node.runs();

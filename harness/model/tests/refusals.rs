@@ -163,7 +163,7 @@ fn number_20_sets_the_mark_at_hop_1_alone() {
 }
 
 #[test]
-fn numbers_22_23_24() {
+fn numbers_22_and_24_and_a_64th_station() {
     let mut node = with_station();
     let old = changed(REPORT, &[(13, 6)]);
     assert_eq!(node.record(&old, &mut [0; 7]), (22, 0));
@@ -179,8 +179,8 @@ fn numbers_22_23_24() {
         assert_eq!(node.record(&report, &mut [0; 7]).0, 0);
     }
     let newcomer = changed(REPORT, &[(4, 1), (5, 1), (12, 200)]);
-    assert_eq!(node.record(&newcomer, &mut [0; 7]), (23, 0));
-    assert_eq!(node.station_count(), 63);
+    assert_eq!(node.record(&newcomer, &mut [0; 7]), (0, 0));
+    assert_eq!(node.station_count(), 64);
 }
 
 #[test]

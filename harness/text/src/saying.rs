@@ -227,7 +227,6 @@ fn result(result: u8, record: &Record) -> String {
         20 => ("wrong ringlet", marked(record)),
         21 => ("span down", "nothing stored"),
         22 => ("old report", "nothing stored"),
-        23 => ("no place", "nothing stored"),
         24 => ("block set aside", "the station is behind"),
         _ => ("unknown result", ""),
     };
@@ -353,7 +352,8 @@ report west from 02-00-00-00-00-02 hop 2 ringlet 1 => 1 20 0 0 0 0 0 | wrong rin
 report west from 02-00-00-00-00-02 hop 1 ringlet 1 => 1 20 4 0 1 0 1 | wrong ringlet (20): nothing stored, cable mark set
 report west from 02-00-00-00-00-02 hop 1 => 1 21 4 0 1 0 0 | span down (21): nothing stored
 report west from 02-00-00-00-00-02 hop 1 => 1 22 0 0 0 1 0 | old report (22): nothing stored
-report west from 02-00-00-00-00-02 hop 1 => 1 23 0 0 0 63 0 | no place (23): nothing stored
+report west from 02-00-00-00-00-02 hop 1 => 1 23 0 0 0 63 0 | unknown result (23)
+report west from 02-00-00-00-00-02 hop 1 => 1 0 0 0 0 126 0 | taken (0)
 attributes west from 02-00-00-00-00-02 => 1 24 0 0 0 1 0 | block set aside (24): the station is behind
 way 02-00-00-00-00-02 => 1 way 0 1 0 1 | west (0), 1 hop, all idle
 way 02-00-00-00-00-02 => 1 way 0 2 0 1 | west (0), 2 hops, all idle

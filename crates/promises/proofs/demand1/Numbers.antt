@@ -15,8 +15,8 @@ use Rattle.blocks.specs.Types.{among}
 use Rattle.blocks.specs.Meaning.{Meaning, malformed, aside, shows, meaning}
 use Rattle.stations.specs.declared.station.Station.{Station}
 use Rattle.stations.specs.declared.station.Report.{Report}
-use Rattle.stations.specs.Station.{newcomer}
-use Rattle.stations.specs.Stations.{capacity, displaced, renewed, inserted, present, sequenceOf}
+use Rattle.stations.specs.Station.{farthest}
+use Rattle.stations.specs.Stations.{displaced, renewed, present, sequenceOf}
 use Rattle.stations.specs.Hearing.{Placed, distance, heardAgain, placedKnown, placedNew, placedBy, placed}
 use Rattle.controller.specs.declared.reading.Reading.{Reading}
 use Rattle.controller.specs.declared.reading.Reading.the-variants.{Refused, Tick, Link, Keepalive, Operator, Heard, Block}
@@ -28,11 +28,11 @@ use Rattle.promises.specs.Refusals.{numbers, isMalformed, tests}
 use Rattle.promises.proofs.demand1.Order.{of-all, firstOf, Agrees, all-results}
 use Rattle.promises.proofs.demand1.Results.{given, result-is}
 
--- "After 0 and 20 to 24 the closing steps run": the numbers of a record that is not refused.
+-- "After 0 and 20 to 24 the closing steps run": the numbers of a record that is not refused. 02, Item 6, takes 23 out.
 abbrev pub taken : List ℕ
-taken = 0 ∷ 20 ∷ 21 ∷ 22 ∷ 23 ∷ 24 ∷ []
+taken = 0 ∷ 20 ∷ 21 ∷ 22 ∷ 24 ∷ []
 
--- A report that finds its way to the stations: 0, 22 or 23.
+-- A report that finds its way to the stations: 0 or 22.
 module _ (p : Report) (l : List Station) where
   known-taken : (d : ℕ) → among (placedKnown d p l .result) taken ≡ true
   unfolding placedKnown among
@@ -44,11 +44,7 @@ module _ (p : Report) (l : List Station) where
 
   new-taken : among (placedNew p l .result) taken ≡ true
   unfolding placedNew among
-  new-taken = go (ltb (length (displaced p l)) capacity)
-    where
-      go : (t : Bool) → among (cond {A = Placed} t (gives 0 (inserted (newcomer p) (displaced p l))) (gives 23 l) .result) taken ≡ true
-      go true = refl
-      go false = refl
+  new-taken = refl
 
   placed-taken : (o : Option ℕ) → among (placedBy o p l .result) taken ≡ true
   placed-taken none = new-taken
@@ -86,13 +82,13 @@ module _ (s : State) (block : List ℕ) where
       → Agrees taken
       (cond (not (reportFits body)) (some 4)
       (cond (eqb (addressAt body 3) own) (some 5)
-      (cond (ltb 63 (256 - byteAt body 2)) (some 6) none)))
+      (cond (ltb farthest (256 - byteAt body 2)) (some 6) none)))
       (given s block (reportIn own body))
   unfolding reportIn
   report-agrees own body =
       fits (reportFits body) _ _
       (test (eqb (addressAt body 3) own) 5 _ _
-      (test (ltb 63 (256 - byteAt body 2)) 6 none _ (heard-agrees _ _)))
+      (test (ltb farthest (256 - byteAt body 2)) 6 none _ (heard-agrees _ _)))
 
   -- Kind 6: the tests 4 and 5, then 21, 7 and 8.
   learnt-agrees : (n a : ℕ)
@@ -186,11 +182,11 @@ module _ (s : State) (b : List ℕ) (room : ℕ) where
   result-listed =
       all-results taken tests s b room (outcomes s b room .result) agrees (λ n. among n numbers ≡ true)
       (refl, (refl, (refl, (refl, (refl, (refl, (refl, (refl, (refl, (refl, tt))))))))))
-      (refl, (refl, (refl, (refl, (refl, (refl, tt))))))
+      (refl, (refl, (refl, (refl, (refl, tt)))))
 
 -- No number of a record that is not refused is a refusal.
 pub not-refused : (n : ℕ) → among n taken ≡ true → refusal n ≡ false
-not-refused n = of-all (λ k. refusal k ≡ false) taken n (refl, (refl, (refl, (refl, (refl, (refl, tt))))))
+not-refused n = of-all (λ k. refusal k ≡ false) taken n (refl, (refl, (refl, (refl, (refl, tt)))))
 
 pub refused-not-taken : (n : ℕ) → refusal n ≡ true → among n taken ≡ true → ⊥
 refused-not-taken n h m = true≢false (sym h ∙ not-refused n m)

@@ -25,7 +25,7 @@ pub demand2-answers : (b : List ℕ) (st : Started) → Begun b st → (h : List
     → AnsweredAs m (answeredAll (startOf b) (madeOf h) (callOf m))
 demand2-answers b st begun h m met = answered-as b st begun h m met
 
--- The table's laws: at most 63 stations, ascending, none with the own address, each with a hop, no two at one hop, and all that 02, Item 14 lists.
+-- The table's laws: at most as many stations as places, ascending, none with the own address, each with a hop, no two at one hop, and all that 02, Item 14 lists.
 pub demand2-table : (b : List ℕ) (st : Started) → Begun b st → (h : List Made) → Met st h
     → (let s = stateOf (nodeAfter st h) in StationsKept (s .choice .address) (s .choice .ticks .forget) (s .choice .known) (s .stations))
 demand2-table b st begun h met = ruled b st begun h met .kept .state .stations

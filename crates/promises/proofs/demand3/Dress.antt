@@ -4,7 +4,6 @@ use mathlib.Core.Path.{_≡_, refl, sym, _∙_, ap}
 use mathlib.Core.Bool.{Bool, true, false, cond, _||_}
 use mathlib.Core.List.{List, [], _∷_}
 use mathlib.Core.Option.{Option, none, some}
-use lib.ListN.{length}
 use lib.Dec.{eqb, ltb}
 use borrow.Author.Tests.{eq-eqb, eqb-true}
 use Rattle.blocks.specs.declared.attributes.Attributes.{Attributes}
@@ -13,7 +12,7 @@ use Rattle.stations.proofs.Inserting.{unknown-absent}
 use Rattle.stations.specs.declared.station.Station.{Station}
 use Rattle.stations.specs.declared.station.Report.{Report}
 use Rattle.stations.specs.Station.{hop, older, withHop, withAttributes, again, told, newcomer}
-use Rattle.stations.specs.Stations.{capacity, sifted, young, aged, unpurged, purged, otherAt, undisplaced, losing, displaced, renewed, inserted, given, present, sequenceOf, attributesOf}
+use Rattle.stations.specs.Stations.{sifted, young, aged, unpurged, purged, otherAt, undisplaced, losing, displaced, renewed, inserted, given, present, sequenceOf, attributesOf}
 use Rattle.stations.specs.Hearing.{Placed, distance, heardAgain, placedKnown, placedNew, placedBy, placed}
 use Rattle.ways.specs.Walk.{held, walk}
 use Rattle.ways.specs.Choice.{usable, way, hopOf}
@@ -37,11 +36,6 @@ module _ (f : ℕ → Attributes) where
   unfolding sequenceOf dressed
   sequence-dressed a [] = refl
   sequence-dressed a (s ∷ l) = either (eqb (s .address) a) refl (sequence-dressed a l)
-
-  pub length-dressed : (l : List Station) → length (dressed f l) ≡ length l
-  unfolding dressed
-  length-dressed [] = refl
-  length-dressed (s ∷ l) = ap suc (length-dressed l)
 
   pub attributes-dressed : (a : ℕ) (l : List Station) → attributesOf a (dressed f l) ≡ cond (present a l) (some (f a)) none
   unfolding attributesOf dressed present
@@ -183,12 +177,10 @@ module _ (f : ℕ → Attributes) (p : Report) where
   new-dressed : f (p .address) ≡ absent → (l : List Station) → placedNew p (dressed f l) ≡ dressedPlaced f (placedNew p l)
   unfolding placedNew
   new-dressed e l =
-      rw (displaced-dressed f p l, length-dressed f (displaced p l))
-      (pickPlaced f (ltb (length (displaced p l)) capacity) _ _
+      rw (displaced-dressed f p l)
       (ap (puts 0)
       (ap (λ (x : Attributes). inserted (withAttributes x (newcomer p)) (dressed f (displaced p l))) (sym e)
       ∙ inserted-dressed f (newcomer p) (displaced p l)))
-      refl)
 
   pub placed-dressed : (l : List Station) → (present (p .address) l ≡ false → f (p .address) ≡ absent)
       → placed p (dressed f l) ≡ dressedPlaced f (placed p l)

@@ -1,4 +1,4 @@
--- 20 to 23: the handler changes the cable mark of the span that heard the report, that only at hop 1, and nothing else; what follows are the closing steps. For a block 21
+-- 20 to 22: the handler changes the cable mark of the span that heard the report, that only at hop 1, and nothing else; what follows are the closing steps. For a block 21
 -- changes nothing at all. Assumes nothing.
 use Prim.Native.Nat.{ℕ, _≤_}
 use mathlib.Core.Path.{_≡_, refl, sym, _∙_, ap}
@@ -16,7 +16,7 @@ use Rattle.spans.specs.Requests.{down}
 use Rattle.blocks.specs.Meaning.{Meaning, malformed, aside, shows, meaning}
 use Rattle.stations.specs.declared.station.Station.{Station}
 use Rattle.stations.specs.declared.station.Report.{Report}
-use Rattle.stations.specs.Stations.{capacity, displaced, present, sequenceOf}
+use Rattle.stations.specs.Stations.{present, sequenceOf}
 use Rattle.stations.specs.Hearing.{Placed, distance, placedKnown, placedNew, placedBy, placed}
 use Rattle.stations.proofs.Lists.{chosen}
 use Rattle.controller.specs.declared.reading.Reading.{Reading}
@@ -62,7 +62,7 @@ module _ (l : List Station) where
 
   placed-same : (o : Option ℕ) (p : Report) → Unplaced (placedBy o p l)
   unfolding placedKnown placedNew
-  placed-same none p = chosen Unplaced (ltb (length (displaced p l)) capacity) (λ h high. absurd (omega arith)) (λ h high. refl)
+  placed-same none p = λ high. absurd (omega arith)
   placed-same (some stored) p = chosen Unplaced (ltb 128 (distance (p .sequence) stored)) (λ h high. refl) (λ h high. absurd (omega arith))
 
   hearing-same : (t : Ticks) (n : ℕ) (p : Report) (x : Spans) → Unplaced (hearing t n p x l)
@@ -73,7 +73,7 @@ module _ (l : List Station) where
 
   -- Of a block, 21 is the only one of them.
   abbrev Down : Placed → Type 0
-  Down j = 20 ≤ j .result → j .result ≤ 23 → j ≡ gives 21 l
+  Down j = 20 ≤ j .result → j .result ≤ 22 → j ≡ gives 21 l
 
   taking-not : (a : ℕ) (m : Meaning) → Down (taking a m l)
   taking-not a malformed high low = absurd (omega arith)
@@ -115,7 +115,7 @@ module _ (s : State) (b : List ℕ) where
       hearing-same (s .stations) t n p x (omega (arith, result, high)) in
       leaves (Heard n p) k x high refl is (same ∙ ap (λ (i : ℕ). gives i (s .stations)) (sym result))
 
-  block-leaves : (n a : ℕ) → 20 ≤ outcomeOf (Block n a) b s .result → outcomeOf (Block n a) b s .result ≤ 23
+  block-leaves : (n a : ℕ) → 20 ≤ outcomeOf (Block n a) b s .result → outcomeOf (Block n a) b s .result ≤ 22
       → OnlyMark s b (outcomeOf (Block n a) b s .result) (Block n a)
   unfolding acted judged given
   block-leaves n a high low =
@@ -125,7 +125,7 @@ module _ (s : State) (b : List ℕ) where
       learning-down (s .stations) t n a (meaning (s .choice .known) b) (s .spans) (omega (arith, result, high)) (omega (arith, result, low)) in
       (result ∙ ap (λ (q : Placed). q .result) same, leaves (Block n a) 21 (s .spans) (omega arith) refl refl same)
 
-  only-mark-of : (r : Reading) → Sided r → 20 ≤ outcomeOf r b s .result → outcomeOf r b s .result ≤ 23 → OnlyMark s b (outcomeOf r b s .result) r
+  only-mark-of : (r : Reading) → Sided r → 20 ≤ outcomeOf r b s .result → outcomeOf r b s .result ≤ 22 → OnlyMark s b (outcomeOf r b s .result) r
   unfolding judged given
   only-mark-of (Refused i) side high low = omega (arith, result-of s b (Refused i), side, high)
   only-mark-of Tick side high low = omega (arith, result-of s b Tick, high)
@@ -137,7 +137,7 @@ module _ (s : State) (b : List ℕ) where
 
 -- Of every record, from its bytes.
 module _ (s : State) (b : List ℕ) (room : ℕ) where
-  pub only-mark : 20 ≤ outcomes s b room .result → outcomes s b room .result ≤ 23
+  pub only-mark : 20 ≤ outcomes s b room .result → outcomes s b room .result ≤ 22
       → OnlyMark s (blockOf b) (outcomes s b room .result) (reading (s .choice .address) b room)
   only-mark =
       let r : Reading = reading (s .choice .address) b room in
@@ -158,7 +158,7 @@ module _ (s : State) (b : List ℕ) (room : ℕ) where
 
 -- Of a call that met its contract.
 module _ {n : Node} {b old new : List ℕ} {r : Answer} (h : Recorded n b old new r) where
-  pub recorded-only-mark : 20 ≤ r .result → r .result ≤ 23
+  pub recorded-only-mark : 20 ≤ r .result → r .result ≤ 22
       → OnlyMark (stateOf n) (blockOf b) (r .result) (reading (settingsOf n .address) b (length old))
   recorded-only-mark high low =
       let is : r .result ≡ outcomes (stateOf n) b (length old) .result = recorded-result h in

@@ -1,5 +1,5 @@
 -- What the theorems on spans and marks suppose is met, by computation from bytes; and P6 as one of their cases. Assumes nothing.
-use Prim.Native.Nat.{ℕ, zero, suc, _+_, _-_, _≤_}
+use Prim.Native.Nat.{ℕ, _≤_}
 use mathlib.Core.Path.{_≡_, refl, sym, subst}
 use mathlib.Core.Bool.{true, false}
 use mathlib.Core.List.{List, [], _∷_, _++_}
@@ -236,18 +236,12 @@ plain = started (node 0 0)
 abbrev resultAfter : List (List ℕ) → List ℕ → ℕ
 resultAfter l b = answeredAll plain (callsFor l) (call b) .result
 
--- So many stations on ringlet 0, the first at hop 1; a new one on ringlet 1 then has no place.
-unfoldable pub crowd : ℕ → List (List ℕ)
-crowd zero = []
-crowd (suc k) = crowd k ++ (report 0 (255 - k) (k + 2) 1 0 0 ∷ [])
-
-pub twenty-to-twenty-three : (resultAfter [] (heardOn 0 1 255 1) ≡ 20)
+pub twenty-to-twenty-two : (resultAfter [] (heardOn 0 1 255 1) ≡ 20)
     × (resultAfter (heardOn 0 1 255 1 ∷ []) (heardOn 0 0 254 1) ≡ 21)
     × (resultAfter (heardOn 0 0 255 200 ∷ []) (heardOn 0 0 255 73) ≡ 22)
-    × (resultAfter (crowd 63) (report 1 255 65 1 0 0) ≡ 23)
     × (resultAfter (heardOn 0 1 255 1 ∷ []) (attributes 2 []) ≡ 21)
-unfolding started afterAll addressAt crowd
-twenty-to-twenty-three = (refl, refl, refl, refl, refl)
+unfolding started afterAll addressAt
+twenty-to-twenty-two = (refl, refl, refl, refl)
 
 -- The mark is set at hop 1, not at hop 2; and what only-mark says of the first.
 pub marks : (spanAfter 0 plain (callsFor (heardOn 0 1 255 1 ∷ [])) .cable ≡ true) × (spanAfter 0 plain (callsFor (heardOn 0 1 254 1 ∷ [])) .cable ≡ false)
@@ -257,4 +251,4 @@ marks = (refl, refl)
 pub marks-alone : OnlyMark plain (blockOf (heardOn 0 1 255 1)) (resultAfter [] (heardOn 0 1 255 1)) (readAs (station 1) (call (heardOn 0 1 255 1)))
 unfolding started afterAll
 marks-alone =
-    only-mark plain (heardOn 0 1 255 1) 7 (omega (arith, twenty-to-twenty-three .0)) (omega (arith, twenty-to-twenty-three .0))
+    only-mark plain (heardOn 0 1 255 1) 7 (omega (arith, twenty-to-twenty-two .0)) (omega (arith, twenty-to-twenty-two .0))

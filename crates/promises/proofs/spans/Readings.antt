@@ -10,6 +10,7 @@ use borrow.Author.Tests.{eqb-true, eqb-false, leb-true}
 use Rattle.wire.specs.Fields.{byteAt, addressAt, oddFirst}
 use Rattle.wire.specs.Head.{kindOf, bodyOf, broken}
 use Rattle.spans.specs.Codes.{listed}
+use Rattle.stations.specs.Station.{farthest}
 use Rattle.stations.proofs.Lists.{chosen}
 use Rattle.controller.specs.declared.reading.Reading.{Reading}
 use Rattle.controller.specs.declared.reading.Reading.the-variants.{Refused, Tick, Link, Keepalive, Operator, Heard, Block}
@@ -68,7 +69,7 @@ module _ (own : ℕ) (b : List ℕ) where
   report-sided =
       chosen Sided (reportFits b)
       (λ h. chosen Sided (eqb (addressAt b 3) own) (λ o. omega arith)
-      (λ o. chosen Sided (ltb 63 (256 - byteAt b 2)) (λ j. omega arith) (λ j. report-span h)))
+      (λ o. chosen Sided (ltb farthest (256 - byteAt b 2)) (λ j. omega arith) (λ j. report-span h)))
       (λ h. omega arith)
 
   block-sided : Sided (blockIn own b)

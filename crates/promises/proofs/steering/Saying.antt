@@ -144,8 +144,7 @@ module _ (f : ℕ → Option Ends) (l : List Station) (e : Each (Says f) l) wher
   placed-says n p =
       placed-ends (λ (x : Placed). Each (Says (sayingNow (Heard n p) (x .result) l f)) (x .stations)) p l
       (λ stored is near. taken (some stored) is _ (known-says f p (distance (p .sequence) stored) (displaced p l) rest)) (λ stored is far. e)
-      (λ is room. taken none is _ (new-says f p (displaced p l) (displaced-nobody p (p .address) l (unknown-nobody (p .address) l is)) rest))
-      (λ is full. e)
+      (λ is. taken none is _ (new-says f p (displaced p l) (displaced-nobody p (p .address) l (unknown-nobody (p .address) l is)) rest))
     where
       rest : Each (Says f) (displaced p l)
       rest = displaced-says f p l e

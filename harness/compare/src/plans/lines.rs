@@ -9,7 +9,7 @@ use text::writing;
 use crate::many::Counter;
 use crate::plans::planning::behind;
 use crate::plans::questions::KIND;
-use crate::ring::LARGEST;
+use crate::ring::{LARGEST, PLACES};
 use crate::tally::{Tally, OTHER};
 
 const END: &str = "end '2'";
@@ -23,13 +23,24 @@ const OPEN: &str = "0, open: no station on both ringlets";
 const PARTLY: &str = "0, some stations on both ringlets";
 const CLOSED: &str = "0, closed: all stations on both ringlets";
 const GAP: &str = "0, a gap between hops";
-const FULL: &str = "0, all places taken";
+/// More stations than one ringlet has hops.
+pub const ABOVE_63: &str = "0, more than 63 stations";
+/// As many stations as the table has places.
+pub const FULL: &str = "0, all 126 places taken";
+/// As many, and each reserves something.
+pub const ALL_RESERVE: &str = "0, all 126 stations reserve";
+/// A number below what 63 stations and the own one can reserve.
+pub const LOWEST: &str = "0, less than 63 stations can leave";
 const OTHER_LENGTH: &str = "4, a question of another length";
 const SEVERAL: &str = "31, several stations behind";
+/// The lowest address that is behind is at a place above the 63rd.
+pub const HIGH_BEHIND: &str = "31, lowest behind at a place above 63";
+/// It is at the last place.
+pub const LAST_BEHIND: &str = "31, lowest behind at place 126";
 const BEHIND_TOO: &str = "32, a station behind";
 
 /// What is counted beside kind 7: each line by its result, and then how many of a result are of which sort.
-pub const LABELS: [&str; 22] = [
+pub const LABELS: [&str; 27] = [
     "result 0",
     "result 4",
     "result 31",
@@ -48,9 +59,14 @@ pub const LABELS: [&str; 22] = [
     PARTLY,
     CLOSED,
     GAP,
+    ABOVE_63,
     FULL,
+    ALL_RESERVE,
+    LOWEST,
     OTHER_LENGTH,
     SEVERAL,
+    HIGH_BEHIND,
+    LAST_BEHIND,
     BEHIND_TOO,
 ];
 
@@ -95,7 +111,9 @@ pub fn count(input: &[u8], said: &[u8], tally: &mut Tally) {
     for (record, line) in answered.into_iter().skip(1) {
         match line {
             Some(line) => count_table(&node, record, line, tally),
-            None => counter.give(&mut node, record, tally),
+            None => {
+                counter.give(&mut node, record, tally);
+            }
         }
     }
 }
@@ -123,6 +141,12 @@ fn count_numbers(ringlets: [&str; 2], defect: &str, tally: &mut Tally) {
     if ringlets.contains(&"0") {
         tally.count(ZERO);
     }
+    // 63 stations and the own one reserve no more than this.
+    let lowest = -64 * 65_535;
+    let numbers = ringlets.map(|free| free.parse().unwrap_or(0_i64));
+    if numbers.iter().any(|&free| free < lowest) {
+        tally.count(LOWEST);
+    }
     match ringlets.map(|free| free.starts_with('-')) {
         [true, false] => tally.count(BELOW_0),
         [false, true] => tally.count(BELOW_1),
@@ -135,9 +159,12 @@ fn count_numbers(ringlets: [&str; 2], defect: &str, tally: &mut Tally) {
 fn count_table(node: &Node, record: &[u8], line: &str, tally: &mut Tally) {
     let (result, _) = line.split_once(' ').unwrap_or((line, ""));
     match result {
-        "0" => count_stations(&node.hops(), tally),
+        "0" => {
+            count_stations(&node.hops(), tally);
+            count_reserving(node, tally);
+        }
         "4" if asked(record).is_none() => tally.count(OTHER_LENGTH),
-        "31" if behind(node).len() > 1 => tally.count(SEVERAL),
+        "31" => count_behind(node, tally),
         "32" if !behind(node).is_empty() => tally.count(BEHIND_TOO),
         _ => {}
     }
@@ -154,8 +181,36 @@ fn count_stations(stations: &[(u64, [u8; 2])], tally: &mut Tally) {
     if (0..2).any(|ringlet| has_gap(stations, ringlet)) {
         tally.count(GAP);
     }
-    if stations.len() == LARGEST {
+    if stations.len() > LARGEST {
+        tally.count(ABOVE_63);
+    }
+    if stations.len() == PLACES {
         tally.count(FULL);
+    }
+}
+
+/// Counts a full table in which nobody reserves nothing.
+fn count_reserving(node: &Node, tally: &mut Tally) {
+    let stations = node.hops();
+    let reserves = |address: u64| node.attributes(address).bandwidths != [0, 0];
+    if stations.len() == PLACES && stations.iter().all(|(address, _)| reserves(*address)) {
+        tally.count(ALL_RESERVE);
+    }
+}
+
+fn count_behind(node: &Node, tally: &mut Tally) {
+    let behind = behind(node);
+    if behind.len() > 1 {
+        tally.count(SEVERAL);
+    }
+    let stations = node.hops();
+    let lowest = behind.first();
+    let place = stations.iter().position(|(at, _)| Some(at) == lowest);
+    if place >= Some(LARGEST) {
+        tally.count(HIGH_BEHIND);
+    }
+    if place == Some(PLACES - 1) {
+        tally.count(LAST_BEHIND);
     }
 }
 

@@ -17,6 +17,7 @@ use crate::maker::Maker;
 use crate::many;
 use crate::opening::{self, Opening};
 use crate::plans::planning::Planning;
+use crate::ring::LARGEST;
 use crate::script::{end, Script};
 use crate::subject::{right, Subject};
 use crate::tally::Tally;
@@ -108,7 +109,7 @@ fn plan(seed: u64) -> Script {
 fn play(mut chance: Chance, budget: usize, settings: Option<Bytes>) -> Script {
     let opening = opening(&mut chance);
     let small = chance.range(1, 8);
-    let large = chance.range(9, 63);
+    let large = chance.range(9, LARGEST);
     let stations = chance.pick(&[small, small, small, large]);
     let mut p = Planning::new(Maker::new(chance, opening, stations));
     questions::ask(&mut p);
@@ -142,6 +143,7 @@ mod tests {
     use model::{Node, OUTPUT_ROOM};
 
     use super::*;
+    use crate::ring::PLACES;
 
     #[test]
     fn a_seed_gives_one_plan() {
@@ -149,13 +151,35 @@ mod tests {
         assert_ne!(plan(17), plan(18));
     }
 
-    #[test]
-    fn many_plans_reach_kind_7() {
+    /// What the first 200 plans reach.
+    fn reached() -> Tally {
         let mut sum = Plans.nothing();
         for seed in 1..=200 {
             let bytes = plan(seed).bytes();
             sum.add(&Plans.count(&bytes, &right(&Plans, &bytes)));
         }
+        sum
+    }
+
+    #[test]
+    fn many_plans_crowd_the_table() {
+        let sum = reached();
+        let least = [
+            (lines::ABOVE_63, 350),
+            (lines::FULL, 250),
+            (lines::ALL_RESERVE, 50),
+            (lines::LOWEST, 60),
+            (lines::HIGH_BEHIND, 40),
+            (lines::LAST_BEHIND, 10),
+        ];
+        for (label, least) in least {
+            assert!(sum.of(label) > least, "{label}: {}", sum.of(label));
+        }
+    }
+
+    #[test]
+    fn many_plans_reach_kind_7() {
+        let sum = reached();
         let least = [
             (many::INPUTS, 80),
             (many::TAKEN, 500),
@@ -209,8 +233,10 @@ mod tests {
     fn tables_of_every_size_and_answers_on_both_sides_of_zero_are_common() {
         let all: Vec<Found> = (1..=200).flat_map(found).collect();
         let sizes: BTreeSet<usize> = all.iter().map(|found| found.stations).collect();
-        assert!(sizes.len() > 50, "{sizes:?}");
-        assert!(sizes.contains(&0) && sizes.contains(&63));
+        assert!(sizes.len() > 60, "{sizes:?}");
+        for size in [0, LARGEST, LARGEST + 1, PLACES] {
+            assert!(sizes.contains(&size), "{size} of {sizes:?}");
+        }
         for ringlet in 0..2 {
             let reserving = all.iter().filter(|found| found.reserved[ringlet] > 0);
             let free: Vec<i64> = reserving.map(|found| found.free[ringlet]).collect();

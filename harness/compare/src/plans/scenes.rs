@@ -4,6 +4,7 @@ use text::records::{self, Report};
 
 use crate::blocks;
 use crate::chance::Chance;
+use crate::joining::Joined;
 use crate::maker::{Maker, NONE_DEAF};
 use crate::owed;
 use crate::plans::planning::Planning;
@@ -16,7 +17,7 @@ use crate::wild;
 pub type Scene = fn(&mut Planning);
 
 /// Scenes and how often each comes.
-pub const SCENES: [(usize, Scene); 8] = [
+pub const SCENES: [(usize, Scene); 9] = [
     (12, gather),
     (12, reserve),
     (6, fall_behind),
@@ -24,6 +25,7 @@ pub const SCENES: [(usize, Scene); 8] = [
     (5, displace),
     (4, forget),
     (4, crowd),
+    (4, join),
     (6, of_a_drill),
 ];
 
@@ -139,22 +141,28 @@ impl Load {
 
 /// Members reserve, mostly all of them. Some of their blocks reserve nothing, or are of any sort.
 fn reserve(p: &mut Planning) {
+    let members = p.maker.ring.members.iter().map(|member| member.address);
+    let addresses = members.collect();
+    reserve_all(p, addresses);
+}
+
+/// The same of any stations.
+fn reserve_all(p: &mut Planning, mut addresses: Vec<u64>) {
     let m = &mut p.maker;
     let loads = [Load::any(&mut m.chance), Load::any(&mut m.chance)];
     let part = m.chance.pick(&[100, 100, 60, 20]);
-    let members = m.ring.members.len();
-    for at in any_order(&mut m.chance, members) {
+    m.chance.shuffle(&mut addresses);
+    for &address in &addresses {
         if m.chance.percent(part) {
-            let address = m.ring.members[at].address;
-            reserve_for(m, address, loads);
+            reserve_for(m, address, loads, addresses.len());
         }
     }
 }
 
-fn reserve_for(m: &mut Maker, address: u64, loads: [Load; 2]) {
-    let members = m.ring.members.len();
+/// What one of so many reserves.
+fn reserve_for(m: &mut Maker, address: u64, loads: [Load; 2], stations: usize) {
     let chance = &mut m.chance;
-    let bandwidths = loads.map(|load| load.part(chance, members));
+    let bandwidths = loads.map(|load| load.part(chance, stations));
     let block = match chance.below(40) {
         0 => blocks::block(chance),
         1..=3 => Vec::new(),
@@ -188,8 +196,9 @@ pub fn catch_up(p: &mut Planning) {
     let mut behind = p.behind();
     p.maker.chance.shuffle(&mut behind);
     let loads = [Load::Shared, Load::Shared];
+    let members = p.maker.ring.members.len();
     for address in behind {
-        reserve_for(&mut p.maker, address, loads);
+        reserve_for(&mut p.maker, address, loads, members);
         if p.maker.chance.percent(30) {
             ask_once(p);
         }
@@ -224,7 +233,8 @@ fn displace(p: &mut Planning) {
         });
         if m.chance.percent(60) {
             let loads = [Load::any(&mut m.chance), Load::any(&mut m.chance)];
-            reserve_for(m, stranger.address, loads);
+            let members = m.ring.members.len();
+            reserve_for(m, stranger.address, loads, members);
         }
         if m.chance.percent(50) {
             m.ring.members[at] = stranger;
@@ -255,7 +265,7 @@ fn forget(p: &mut Planning) {
     }
 }
 
-/// All 63 places are taken, and all of them reserve.
+/// All 63 hops of a ringlet are held, and all who hold them reserve.
 fn crowd(p: &mut Planning) {
     let m = &mut p.maker;
     m.ring.grow(&mut m.chance, LARGEST);
@@ -271,4 +281,70 @@ fn crowd(p: &mut Planning) {
     let m = &mut p.maker;
     let left = m.chance.pick(&[1, 3, 8, 20, LARGEST]);
     m.ring.members.truncate(left);
+}
+
+/// Two rings are joined: all 126 places are taken. Their stations reserve, fall behind and catch up, are displaced, and leave.
+fn join(p: &mut Planning) {
+    let before = p.maker.records.len();
+    let mut joined = Joined::fill(&mut p.maker);
+    if p.maker.chance.percent(40) {
+        reserve_surely(&mut p.maker, &joined.addresses());
+    } else {
+        reserve_all(p, joined.addresses());
+    }
+    ask(p);
+    if p.maker.chance.percent(60) {
+        catch_up(p);
+        ask(p);
+    }
+    for _ in 0..p.maker.chance.range(1, 8) {
+        crowded(p, &mut joined);
+        ask_once(p);
+    }
+    if p.maker.chance.percent(50) {
+        catch_up(p);
+        let span = p.maker.span();
+        break_span(&mut p.maker, span);
+        ask(p);
+        mend_span(&mut p.maker, span);
+    }
+    joined.part(&mut p.maker);
+    p.maker.spare_since(before);
+}
+
+/// Each of these stations reserves something on both ringlets.
+fn reserve_surely(m: &mut Maker, addresses: &[u64]) {
+    let loads = [Load::any(&mut m.chance), Load::any(&mut m.chance)];
+    for &address in addresses {
+        let chance = &mut m.chance;
+        let bandwidths = loads.map(|load| load.part(chance, addresses.len()).max(1));
+        let block = blocks::reserving(chance, bandwidths);
+        let span = m.span() as u8;
+        m.give(records::attributes(span, address, &block));
+    }
+}
+
+/// Somebody of a full table falls behind and catches up, reserves something else, or is displaced by who reserves too.
+fn crowded(p: &mut Planning, joined: &mut Joined) {
+    let m = &mut p.maker;
+    let seat = joined.seat(&mut m.chance);
+    let loads = [Load::any(&mut m.chance), Load::any(&mut m.chance)];
+    let stations = joined.addresses().len();
+    match m.chance.below(3) {
+        0 => {
+            let address = joined.report(seat).address;
+            let block = blocks::set_aside(&mut m.chance);
+            let span = m.span() as u8;
+            m.give(records::attributes(span, address, &block));
+            ask_once(p);
+            reserve_for(&mut p.maker, address, loads, stations);
+        }
+        1 => reserve_for(m, joined.report(seat).address, loads, stations),
+        _ => {
+            joined.newcomer(m, seat);
+            if m.chance.percent(70) {
+                reserve_for(m, joined.report(seat).address, loads, stations);
+            }
+        }
+    }
 }

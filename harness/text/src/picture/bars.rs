@@ -37,7 +37,7 @@ struct Row {
 }
 
 impl Row {
-    /// The first of so many rows in a strip: a full ring has to fit on a page.
+    /// The first of so many rows in a strip: two full ringlets of different stations, 126 rows, have to fit on a page.
     fn first(top: f64, rows: usize) -> Row {
         let (height, size) = match rows {
             0..=24 => (14.0, SIZE),

@@ -34,7 +34,7 @@ returns-2 : tie.Need-returns-2
 unfolding addressee
 returns-2 c =
     let match = c .before .before .match in
-    rw (match .keys2, ← c .before .middle .ensures) (c .station2 .ensures)
+    rw (match .keys2, ← c .before .middle .ensures .0) (c .station2 .ensures)
 
 returns-3 : tie.Need-returns-3
 unfolding addressee
@@ -48,7 +48,7 @@ returns-5 : tie.Need-returns-5
 unfolding addressee
 returns-5 c =
     let rest = c .before .before .match .rest in
-    rw (ne-eqb _ 0 (rest .0 .0 .0 .1), ne-eqb _ 1 (rest .0 .0 .1), ne-eqb _ 2 (rest .0 .1), ne-eqb _ 3 (rest .1), ← c .before .middle2 .ensures)
+    rw (ne-eqb _ 0 (rest .0 .0 .0 .1), ne-eqb _ 1 (rest .0 .0 .1), ne-eqb _ 2 (rest .0 .1), ne-eqb _ 3 (rest .1), ← c .before .middle2 .ensures .0)
     (c .station5 .ensures)
 
 pub addressee-spec : {M : Type 1} → statement M

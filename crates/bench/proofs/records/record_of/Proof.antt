@@ -59,7 +59,7 @@ unfolding recordOf
 returns-3 c =
     let match = c .before .before .before .match in
     let middle = c .before .before .middle in
-    rw (match .keys3) (rw (middle .ensures, c .before .middle2 .ensures) at (c .report .ensures))
+    rw (match .keys3) (rw (middle .ensures .0, c .before .middle2 .ensures .0) at (c .report .ensures))
 
 returns-4 : tie.Need-returns-4
 unfolding recordOf

@@ -1,42 +1,23 @@
--- The two reports that `joined` names, one after the other. Assumes nothing.
+-- More stations than hops are those of two rings. Assumes nothing.
+use borrow.Author.Tests.{lt-ltb, le-ltb}
 use borrow.Author.Needs.{needs}
 use Rattle.bench.specs.Ring.{joined}
-use Rattle.bench.proofs.Taking.{both-taken}
 use Rattle.bench.proofs.ring.join.Statement.{statement}
 use Rattle.bench.proofs.ring.join.Tie as tie
 
-report-requires : tie.Need-report-requires
-report-requires c κs = search needs
+join-alone-requires : tie.Need-join-alone-requires
+join-alone-requires c κs = search needs
 
-after-requires : tie.Need-after-requires
-after-requires c κs = search needs
-
-add-report : tie.Need-add-report
-add-report c = search needs
-
-sub-report : tie.Need-sub-report
-sub-report c = search needs
-
-report-requires-2 : tie.Need-report-requires-2
-report-requires-2 c κs = search needs
-
-after-requires-2 : tie.Need-after-requires-2
-after-requires-2 c κs = search needs
+join-around-requires : tie.Need-join-around-requires
+join-around-requires c κs = search needs
 
 returns : tie.Need-returns
 unfolding joined
-returns c =
-    let one = c .before .before .before .before in
-    both-taken _ _ _ (one .before .report .ensures) (c .before .report2 .ensures) (one .after .ensures) (c .after2 .ensures)
+returns c = rw (lt-ltb _ _ (c .before .before .before .if1 .taken)) (c .join-alone .ensures)
+
+returns-2 : tie.Need-returns-2
+unfolding joined
+returns-2 c = rw (le-ltb _ _ (c .before .before .before .if1 .left)) (c .join-around .ensures)
 
 pub join-spec : {M : Type 1} → statement M
-join-spec =
-    tie.close
-    (tie.spec
-    report-requires
-    after-requires
-    add-report
-    sub-report
-    report-requires-2
-    after-requires-2
-    returns)
+join-spec = tie.close (tie.spec join-alone-requires join-around-requires returns returns-2)

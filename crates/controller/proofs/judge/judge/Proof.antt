@@ -1,4 +1,5 @@
 -- One arm for each kind of record. Assumes nothing.
+use Rattle.stations.proofs.Room.{kept-hop}
 use Rattle.stations.proofs.Telling.{tell-same}
 use Rattle.controller.specs.Handling.{judged}
 use borrow.Author.Needs.{needs}
@@ -27,7 +28,10 @@ enum-known-r-2 : tie.Need-enum-known-r-2
 enum-known-r-2 c = search needs
 
 hear-requires : tie.Need-hear-requires
-hear-requires c κs = search needs
+hear-requires c κs =
+    let entry = c .before .before .before .before .before in
+    let r2 = c .before .before .r2 in
+    (entry .pre .0, kept-hop ((rw (r2 .given .1) at (entry .pre .2)) .1))
 
 enum-known-r-3 : tie.Need-enum-known-r-3
 enum-known-r-3 c = search needs

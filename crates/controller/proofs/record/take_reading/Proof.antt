@@ -1,7 +1,7 @@
 -- Each step reads the words that the one before it left. Assumes nothing.
 use mathlib.Core.Path.{sym, _∙_}
 use Rattle.controller.proofs.Nodes.{kept-own, kept-rows}
-use Rattle.controller.proofs.Records.{own-held, forget-fits, refused, rows-kept, taken}
+use Rattle.controller.proofs.Records.{own-held, forget-fits, reading-fits, refused, rows-kept, taken}
 use borrow.Author.Needs.{needs}
 use Rattle.controller.proofs.record.take_reading.Statement.{statement}
 use Rattle.controller.proofs.record.take_reading.Tie as tie
@@ -14,8 +14,11 @@ act-requires c κs =
 judge-requires : tie.Need-judge-requires
 judge-requires c κs =
     let entry = c .before .before .before .before .before .before in
-    let act = c .before .before .act in
-    (kept-rows (entry .pre .0), forget-fits (entry .pre .0) (entry .args .r) (entry .args .block .now) (act .ensures))
+    let act = c .before .before .act in (
+      kept-rows (entry .pre .0),
+      forget-fits (entry .pre .0) (entry .args .r) (entry .args .block .now) (act .ensures),
+      reading-fits (entry .pre .0) (entry .args .r) (entry .args .block .now) (act .ensures) (entry .pre .1),
+    )
 
 is-refusal-requires : tie.Need-is-refusal-requires
 is-refusal-requires c κs = search needs

@@ -18,7 +18,7 @@ sequence-in-requires : tie.Need-sequence-in-requires
 sequence-in-requires c κs =
     let entry = c .before in
     let held = entry .pre .0 .held in
-    omega (arith, count-long held, count-few held, known-inside held (entry .args .p) (entry .args .at) (entry .pre .1))
+    omega (arith, count-long held, count-few held, known-inside held (entry .args .p) (entry .args .at) (entry .pre .2))
 
 -- src/hear.rt:64:9
 distance-requires : tie.Need-distance-requires
@@ -29,7 +29,7 @@ returns : tie.Need-returns
 returns c =
     let entry = c .before .before .before .before in
     let sequence-in = c .before .before .sequence-in in
-    known-old (entry .pre .0 .held) (entry .args .p) (entry .args .at) (entry .pre .1) (sequence-in .ensures) (c .before .distance .ensures)
+    known-old (entry .pre .0 .held) (entry .args .p) (entry .args .at) (entry .pre .2) (sequence-in .ensures) (c .before .distance .ensures)
     (c .if1 .taken)
 
 -- src/hear.rt:68:9
@@ -40,7 +40,7 @@ holder-requires c κs = search needs
 renew-at-requires : tie.Need-renew-at-requires
 renew-at-requires c κs =
     let entry = c .before .before .before .before .before .before .before in
-    ((entry .pre) .0 .held, known-inside (entry .pre .0 .held) (entry .args .p) (entry .args .at) (entry .pre .1))
+    ((entry .pre) .0 .held, known-inside (entry .pre .0 .held) (entry .args .p) (entry .args .at) (entry .pre .2))
 
 -- src/hear.rt:70:5
 displace-others-requires : tie.Need-displace-others-requires
@@ -49,7 +49,7 @@ displace-others-requires c κs =
     let distance = c .before .before .before .before .before .before .distance in
     let holder = c .before .before .before .holder in
     let fits : Fits (entry .args .p) = record { hop = omega arith; sequence = omega arith; west = omega arith; east = omega arith } in
-    renewed-sole (entry .pre .0 .held) (entry .args .p) (entry .args .at) (entry .pre .1) (distance .result) fits (c .before .renew-at .ensures) _
+    renewed-sole (entry .pre .0 .held) (entry .args .p) (entry .args .at) (entry .pre .2) (distance .result) fits (c .before .renew-at .ensures) _
     (holder .ensures)
 
 -- src/hear.rt:59:1
@@ -61,7 +61,7 @@ returns-2 c =
     let if1 = c .before .before .before .before .before .before .if1 in
     let renew-at = c .before .before .renew-at in
     let fits : Fits (entry .args .p) = record { hop = omega arith; sequence = omega arith; west = omega arith; east = omega arith } in
-    known-placed (entry .pre .0 .held) (entry .args .p) (entry .args .at) (entry .pre .1) (sequence-in .ensures) (distance .ensures) fits (if1 .left)
+    known-placed (entry .pre .0 .held) (entry .args .p) (entry .args .at) (entry .pre .2) (sequence-in .ensures) (distance .ensures) fits (if1 .left)
     (renew-at .ensures) (c .displace-others .ensures)
 
 pub hear-known-spec : {M : Type 1} → statement M

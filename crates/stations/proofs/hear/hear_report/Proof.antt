@@ -1,104 +1,40 @@
--- The station at the rank of the address is the known one, or there is none. Assumes nothing.
-use mathlib.Core.Path.{sym, ap, _∙_}
-use native.Mathlib.Omega.{arith}
-use Rattle.stations.specs.Rows.{leftBy}
-use Rattle.stations.proofs.Reading.{count-few, row-hit, row-other, row-past}
-use Rattle.stations.proofs.Storing.{new-report, known-report}
+-- At a hop in range, or refused. Assumes nothing.
+use Rattle.stations.specs.Hearing.{placedAny}
+use Rattle.stations.proofs.Telling.{tell-same}
+use mathlib.Core.Path.{sym, _∙_}
 use borrow.Author.Needs.{needs}
 use Rattle.stations.proofs.hear.hear_report.Statement.{statement}
 use Rattle.stations.proofs.hear.hear_report.Tie as tie
 use Rattle.stations.proofs.hear.hear_report.Reads as reads
 use Rattle.stations.proofs.hear.hear_report.Lts as lts
-use Rattle.stations.proofs.find.rank.Reads as rank-reads
-use Rattle.stations.proofs.hear.hear_known.Reads as hear-known-reads
-use Rattle.stations.proofs.hear.hear_new.Reads as hear-new-reads
-use Rattle.stations.proofs.rows.address_in.Reads as address-in-reads
-use Rattle.stations.proofs.rows.count.Reads as count-reads
+use Rattle.stations.proofs.hear.hear_from.Reads as hear-from-reads
+use Rattle.stations.proofs.station.is_hop.Reads as is-hop-reads
 
--- src/hear.rt:79:9
-rank-requires : tie.Need-rank-requires
-rank-requires c κs = search needs
+-- src/hear.rt:93:8
+is-hop-requires : tie.Need-is-hop-requires
+is-hop-requires c κs = search needs
 
--- src/hear.rt:80:13
-count-requires : tie.Need-count-requires
-count-requires c κs = search needs
+-- src/hear.rt:94:9
+hear-from-requires : tie.Need-hear-from-requires
+hear-from-requires c κs =
+    let entry = c .before .before .before in
+    let is-hop = c .before .before .is-hop in
+    ((entry .pre), sym (is-hop .ensures) ∙ (c .before .if1 .taken))
 
--- src/hear.rt:81:12
-address-in-requires : tie.Need-address-in-requires
-address-in-requires c κs =
-    let entry = c .before .before .before .before .before .before in
-    let count = c .before .before .count in
-    omega (arith, count-few (entry .pre .held), (count .ensures))
-
--- src/hear.rt:82:13
-hear-known-requires : tie.Need-hear-known-requires
-hear-known-requires c κs =
-    let entry = c .before .before .before .before .before .before .before .before .before .before in
-    let rank = c .before .before .before .before .before .before .before .before .rank in
-    let count = c .before .before .before .before .before .before .count in
-    let if1 = c .before .before .before .before .before .if1 in
-    let address-in = c .before .before .before .address-in in (
-      (entry .pre),
-      sym
-          (row-hit (entry .pre .held) _ (rw (count .ensures) at (if1 .taken)) _ (rank .ensures) (address-in .ensures) (c .before .if2 .taken)),
-    )
-
--- src/hear.rt:82:13
+-- src/hear.rt:94:9
 returns : tie.Need-returns
+unfolding placedAny
 returns c =
-    let entry = c .before .before .before .before .before .before .before .before .before .before .before in
-    let rank = c .before .before .before .before .before .before .before .before .before .rank in
-    let count = c .before .before .before .before .before .before .before .count in
-    let if1 = c .before .before .before .before .before .before .if1 in
-    let address-in = c .before .before .before .before .address-in in
-    let if2 = c .before .before .if2 in
-    let held = entry .pre .held in
-    (c .hear-known .ensures) ∙ ap leftBy (sym
-    (known-report held (entry .args .p) _
-    (sym (row-hit held _ (rw (count .ensures) at (if1 .taken)) _ (rank .ensures) (address-in .ensures) (if2 .taken)))))
-
--- src/hear.rt:84:9
-hear-new-requires : tie.Need-hear-new-requires
-hear-new-requires c κs = search needs
-
--- src/hear.rt:84:9
-returns-2 : tie.Need-returns-2
-returns-2 c =
-    let entry = c .before .before .before .before .before .before .before .before .before .before .before in
-    let rank = c .before .before .before .before .before .before .before .before .before .rank in
-    let count = c .before .before .before .before .before .before .before .count in
-    let if1 = c .before .before .before .before .before .before .if1 in
-    let address-in = c .before .before .before .before .address-in in
-    let if2 = c .before .before .if2 in
-    let held = entry .pre .held in
-    (c .hear-new .ensures) ∙ ap leftBy (sym
-    (new-report held (entry .args .p)
-    (sym (row-other held _ (rw (count .ensures) at (if1 .taken)) _ (rank .ensures) (address-in .ensures) (if2 .left)))))
-
--- src/hear.rt:86:5
-hear-new-requires-2 : tie.Need-hear-new-requires-2
-hear-new-requires-2 c κs = search needs
-
--- src/hear.rt:75:1
-returns-3 : tie.Need-returns-3
-returns-3 c =
-    let entry = c .before .before .before .before .before .before .before in
-    let rank = c .before .before .before .before .before .rank in
-    let count = c .before .before .before .count in
+    let is-hop = c .before .before .before .is-hop in
     let if1 = c .before .before .if1 in
-    (c .hear-new2 .ensures) ∙ ap leftBy (sym
-    (new-report (entry .pre .held) (entry .args .p) (sym (row-past (entry .pre .held) _ _ (rank .ensures) (rw (count .ensures) at (if1 .left))))))
+    rw ((c .hear-from .ensures), ← (is-hop .ensures), (if1 .taken))
+
+-- src/hear.rt:89:1
+returns-2 : tie.Need-returns-2
+unfolding placedAny
+returns-2 c =
+    let entry = c .before .before in
+    rw (← (c .before .is-hop .ensures), (c .if1 .left)) (tell-same (entry .pre) 6)
 
 pub hear-report-spec : {M : Type 1} → statement M
-hear-report-spec =
-    tie.close
-    (tie.spec
-    rank-requires
-    count-requires
-    address-in-requires
-    hear-known-requires
-    returns
-    hear-new-requires
-    returns-2
-    hear-new-requires-2
-    returns-3)
+hear-report-spec = tie.close (tie.spec is-hop-requires hear-from-requires returns returns-2)
