@@ -24,7 +24,7 @@ const LEVEL_TOO_LOW: u8 = 32;
 // What is left of each ringlet, below zero where more is reserved than there is, and whether that is so on either: the excess-reserved
 // defect. The result is 0 or a refusal; of 31 the address is the lowest of a station that is behind. What is not used is 0.
 #[repr(C)]
-#[derive(Drop)]
+#[derive(Clone, Copy)]
 pub struct Free {
     pub address: u64,
     pub ringlet0: i32,

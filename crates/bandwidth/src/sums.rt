@@ -7,7 +7,7 @@ ghost use Rattle.bandwidth.specs.Steps.{sums_with, sums_of};
 use controller::ROW_WORDS;
 
 // All reservations of each ringlet; or, where a station is behind, the address of the first one.
-#[derive(Drop)]
+#[derive(Clone, Copy)]
 pub struct Sums {
     pub address: u64,
     pub ringlet0: u32,

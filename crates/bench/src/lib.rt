@@ -1,6 +1,8 @@
 // Runs of the controller for a benchmark to call: a ring laid out, then one record or one question many times.
 // Follows no section of 01; every number that comes back is what the controller's own definitions give.
 // Stands on bandwidth, controller, ways and stations.
+#![tactic(auto)]
+
 mod exports;
 mod records;
 mod ring;

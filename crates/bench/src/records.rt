@@ -7,7 +7,7 @@ use stations::FARTHEST_HOP;
 
 // A record at the front of 25 bytes, the length of the longest here.
 #[repr(C)]
-#[derive(Drop)]
+#[derive(Clone, Copy)]
 pub struct Packed {
     pub bytes: [u8; 25],
     pub length: usize,

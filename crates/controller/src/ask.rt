@@ -18,7 +18,7 @@ const UNKNOWN: u8 = 3;
 
 // The attributes of a station: 0 with values, 1 behind with the type, 3 not in the table; what is not used is 0.
 #[repr(C)]
-#[derive(Drop)]
+#[derive(Clone, Copy)]
 pub struct Shown {
     pub kind: u16,
     pub reserved0: u16,

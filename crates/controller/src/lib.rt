@@ -1,6 +1,8 @@
 // The controller of a vault node, in words that the caller lends: start, one record at a time, and what may be asked between records.
 // Follows 01, sections Records, Numbers returned for a record and The way to a station.
 // Stands on wire, settings, spans, pacer, blocks, stations and ways.
+#![tactic(auto)]
+
 mod act;
 mod ask;
 mod close;

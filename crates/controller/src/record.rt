@@ -20,7 +20,7 @@ use wire::results;
 
 // What a record is answered: its number, and how many reports stand one after another from the front of the output.
 #[repr(C)]
-#[derive(Drop)]
+#[derive(Clone, Copy)]
 pub struct Returned {
     pub reports: u16,
     pub result: u8,

@@ -5,7 +5,7 @@ ghost use Rattle.drill.specs.Promise.{Within, First};
 use libc::STDIN_FILENO;
 
 // What was read: nothing, as the input has ended; a record that is cut or has a wrong length; a whole one, up to an end in the buffer.
-#[derive(Drop)]
+#[derive(Clone, Copy)]
 pub enum Input {
     Nothing,
     Cut,

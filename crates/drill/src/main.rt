@@ -1,6 +1,8 @@
 // The drill program: settings, then records, from standard input; a line for each record and question.
 // Follows 01, section The drill program.
 // Stands on controller, ways and wire, and on io for its input and output.
+#![tactic(auto)]
+
 mod input;
 mod line;
 mod turn;
@@ -28,7 +30,7 @@ fn main() {
 }
 
 // How a run ended: the number of the last record that was looked for, and whether the drill was to go on.
-#[derive(Drop)]
+#[derive(Clone, Copy)]
 pub struct Ended {
     pub number: u64,
     pub more: bool,

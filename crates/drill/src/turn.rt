@@ -10,13 +10,13 @@ use crate::line;
 use controller::{OWN_WORDS, ROW_WORDS};
 
 // The length of the line that a step gives, and whether the drill goes on.
-#[derive(Drop)]
+#[derive(Clone, Copy)]
 pub struct Turn {
     pub length: usize,
     pub more: bool,
 }
 
-fn goes_on_lem(length: usize) -> Turn
+fn goes_on(length: usize) -> Turn
     ensures { result ≡ record { length = length; more = true } }
 {
     let more = true;
@@ -42,11 +42,11 @@ fn step(
     ensures { Turned (stepped number (node own.old rows.old) bytes.now) line.old line.new (turn_in own.new rows.new result) }
 {
     if wire::word_at(bytes, 2) == 40 {
-        return goes_on_lem(line::put_question(line, number, own, rows, wire::body(bytes)));
+        return goes_on(line::put_question(line, number, own, rows, wire::body(bytes)));
     }
     let mut out = [0u8; 7000];
     let a = controller::take_record(own, rows, bytes, &mut out);
-    goes_on_lem(line::put_record(line, number, own, rows, a))
+    goes_on(line::put_record(line, number, own, rows, a))
 }
 
 // What was read at a number: a cut record and the end of the input end the drill.
@@ -73,7 +73,7 @@ fn tell_start(res: u8, line: &mut [u8; 147]) -> Turn
     ensures { StartTold res line.old line.new result }
 {
     if res == 0 {
-        return goes_on_lem(0);
+        return goes_on(0);
     }
     ends(line::put_settings(line, res))
 }

@@ -1,6 +1,8 @@
 // The planner's program: settings, then records, from standard input; a line for each question of free bandwidth.
 // Follows 02, Item 1. It is thin, so that the numbers can be compared from outside; what it prints is tested.
 // Stands on bandwidth, controller and wire, and on io for its input and output.
+#![tactic(auto)]
+
 mod input;
 mod line;
 mod turn;

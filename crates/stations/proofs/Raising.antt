@@ -1,5 +1,5 @@
 -- A pass in which nobody has left yet: what its words hold, and that it goes on from such words. Assumes nothing.
-use Rattle.std.proofs.Common.{◌≡◌, ℕ, ◌+◌, ◌-◌, ◌≤◌, Bool, List, ◌++◌, length, take, drop, replicate, sym, refl, ap, ◌∙◌, append_assoc, append-nil, arith, length-append, length-drop}
+use Rattle.std.proofs.Common.{◌≡◌, ℕ, ◌-◌, ◌≤◌, Bool, List, ◌++◌, length, take, drop, replicate, sym, refl, ap, ◌∙◌, append_assoc, append-nil, arith, length-append, length-drop}
 use lib.Seq.{drop-append-le}
 use Rattle.stations.specs.Station.{Station}
 use Rattle.stations.specs.Stations.{capacity, sifted}

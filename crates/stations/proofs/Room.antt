@@ -7,8 +7,7 @@ use Rattle.stations.specs.Stations.{capacity, other_at, undisplaced, losing, dis
 use Rattle.stations.specs.Hearing.{placed, placed_any}
 use Rattle.stations.specs.Table.{Each}
 use Rattle.stations.specs.Kept.{Apart, ReportKept}
-use Rattle.stations.specs.Rows.{Near}
-use Rattle.stations.proofs.Lists.{chosen, each_both}
+use Rattle.stations.proofs.Lists.{each_both}
 use Rattle.stations.proofs.Hops.{hop-set, near-set}
 use Rattle.stations.proofs.Sifting.{sifted-each, sifted-all, sifted-apart, losing_lowers}
 use Rattle.stations.proofs.Inserting.{Nobody, displaced_nobody}

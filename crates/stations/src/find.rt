@@ -6,7 +6,7 @@ ghost use Rattle.stations.specs.Steps.{rank_of};
 
 use crate::rows::{ROW_WORDS, address_in, count};
 
-#[derive(Drop)]
+#[derive(Clone, Copy)]
 pub enum Found {
     At(usize),
     Nothing,

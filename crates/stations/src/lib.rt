@@ -1,6 +1,8 @@
 // The station table, in words that the caller lends: a report heard, ages, the purge of a ringlet, attributes.
 // Follows 01, section Stations.
 // Stands on blocks and wire.
+#![tactic(auto)]
+
 mod age;
 mod displace;
 mod find;

@@ -8,7 +8,7 @@ use crate::walk::{Walked, walk_to};
 use spans::codes::SF;
 use stations::{Found, ROW_WORDS};
 
-#[derive(Drop)]
+#[derive(Clone, Copy)]
 pub enum Reply {
     West,
     East,
@@ -17,7 +17,7 @@ pub enum Reply {
 }
 
 // The reply, and of the way chosen its hops, its worst request and the first span that has it; zeros where none is chosen.
-#[derive(Drop)]
+#[derive(Clone, Copy)]
 pub struct Steering {
     pub reply: Reply,
     pub hops: u8,
@@ -26,7 +26,7 @@ pub struct Steering {
 }
 
 // One direction: not usable, or its worst request, its hops and the first span that has that request.
-#[derive(Drop)]
+#[derive(Clone, Copy)]
 pub enum Side {
     Closed,
     Open { worst: u8, hops: u8, span: u8 },

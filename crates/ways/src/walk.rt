@@ -8,7 +8,7 @@ use spans::codes::IDLE;
 use stations::{PLACES, ROW_WORDS, side};
 
 // The worst request of a walk, and the first span that has it.
-#[derive(Drop)]
+#[derive(Clone, Copy)]
 pub enum Walked {
     Broken,
     Worst { worst: u8, span: u8 },

@@ -1,7 +1,7 @@
 -- The requests stored of a station are those that it last said: every step of a call keeps this. Assumes nothing.
 use Prim.Native.Nat.{ℕ}
 use mathlib.Core.Path.{◌≡◌, refl, sym, subst, ◌∙◌}
-use mathlib.Core.Bool.{Bool, true, false, not, cond, ◌&&◌, ◌||◌, and_false, or-true, and-eq-true_iff}
+use mathlib.Core.Bool.{Bool, true, false, not, cond, ◌&&◌, ◌||◌, and-false, or-true, and-eq-true_iff}
 use mathlib.Core.List.{List, [], ◌∷◌}
 use mathlib.Core.Option.{Option, none, some}
 use native.Mathlib.Omega.{arith}
@@ -110,7 +110,7 @@ module _ (f : ℕ → Option Ends) (p : Report) where
 
   -- .. nor has anybody by a copy.
   copy_says : (s : Station) → Says f s → Says (heard_from p false f) s
-  copy_says s e = rw (and_false (eqb s.address p.address)) e
+  copy_says s e = rw (and-false (eqb s.address p.address)) e
 
   -- A known station is renewed: by a copy it keeps its requests, by news it has those of the report.
   known-says : (d : ℕ) (l : List Station) → Each (Says f) l
