@@ -16,7 +16,7 @@ returns-then-west_hops-east_hops c =
       le-ltb c.args.west c.args.east (omega arith),
       le-ltb c.args.east c.args.west (omega arith),
       le-leb
-          c.args.west-hops c.args.east-hops (omega arith),
+          c.args.west_hops c.args.east_hops (omega arith),
     )
 
 pub returns : goal.returns
@@ -25,5 +25,5 @@ returns c =
       le-ltb c.args.west c.args.east (omega arith),
       le-ltb c.args.east c.args.west (omega arith),
       lt-leb
-          c.args.west-hops c.args.east-hops (omega arith),
+          c.args.west_hops c.args.east_hops (omega arith),
     )

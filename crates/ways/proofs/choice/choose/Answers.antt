@@ -1,5 +1,4 @@
 -- One arm for each pair of directions; where both are open the better one is asked. Assumes nothing.
-use borrow.Author.Rules.{rules}
 use Rattle.ways.proofs.choice.choose.Goals as goal
 
 pub returns-in-Open-east-2 : goal.returns-in-Open-east-2

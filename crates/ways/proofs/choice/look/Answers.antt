@@ -2,7 +2,6 @@
 use native.Mathlib.Omega.{arith}
 use Rattle.stations.specs.Rows.{stations_in}
 use Rattle.ways.proofs.Sides.{side_zero, side-broken, side_open, side-closed}
-use borrow.Author.Rules.{rules}
 use Rattle.ways.proofs.choice.look.Goals as goal
 
 pub returns-then-h-eq0 : goal.returns-then-h-eq0

@@ -1,5 +1,4 @@
 -- One arm for each reply: the direction that it names, or none. Assumes nothing.
-use borrow.Author.Rules.{rules}
 use Rattle.ways.proofs.choice.pass_on.Goals as goal
 
 pub returns-in-West : goal.returns-in-West

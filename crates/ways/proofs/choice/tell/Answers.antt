@@ -1,6 +1,5 @@
 -- One arm for a direction that is closed, one for one that is open. Assumes nothing.
 use mathlib.Core.Path.{refl}
-use borrow.Author.Rules.{rules}
 use Rattle.ways.proofs.choice.tell.Goals as goal
 
 pub returns-in-Closed : goal.returns-in-Closed

@@ -1,7 +1,6 @@
 -- The station found gives both hops; each direction is looked at, and what is told is of the one chosen. Assumes nothing.
 use Rattle.stations.specs.Rows.{stations_in}
 use Rattle.ways.proofs.Sides.{way_unknown, way-known}
-use borrow.Author.Rules.{rules}
 use Rattle.ways.proofs.choice.way_to.Goals as goal
 
 pub returns-in-Nothing : goal.returns-in-Nothing

@@ -1,14 +1,9 @@
 -- From the last station to the first: each store puts one station more before those that are in the index. Assumes nothing.
-use Rattle.ways.proofs.Slots.{slots-start, slots-step, slots-all}
-use native.Mathlib.Omega.{arith}
 use Rattle.ways.specs.Steps.{slots}
-use Rattle.stations.specs.Table.{blank}
 use Rattle.stations.specs.Rows.{stations_in}
-use Rattle.stations.proofs.Tables.{length-live}
 use lib.ListN.{length, drop}
 use Prim.Native.Nat.{◌≤◌}
 use mathlib.Core.Path.{◌≡◌}
-use borrow.Author.Rules.{rules}
 use Rattle.ways.proofs.walk.fill_index.Given as goal
 
 abbrev pub invariant-loop-i : goal.invariant-loop-i

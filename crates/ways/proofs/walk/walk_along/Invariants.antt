@@ -1,12 +1,7 @@
 -- The walk has come to hop j; the index says who holds the next hop, or that none does. Assumes nothing.
-use Rattle.stations.specs.Table.{blank}
 use Rattle.stations.specs.Rows.{stations_in}
-use Rattle.stations.proofs.Tables.{length-live}
-use Rattle.ways.proofs.Slots.{index_none, index_held}
-use Rattle.ways.proofs.Walking.{Come, come-none, come-on, come-broken, come-all}
-use native.Mathlib.Omega.{arith}
-use Prim.Native.Nat.{◌≤◌, ◌-◌, ◌+◌}
-use borrow.Author.Rules.{rules}
+use Rattle.ways.proofs.Walking.{Come}
+use Prim.Native.Nat.{◌≤◌, ◌-◌}
 use Rattle.ways.proofs.walk.walk_along.Given as goal
 
 abbrev pub invariant-loop-j : goal.invariant-loop-j
