@@ -57,7 +57,7 @@ fn is_refusal(res: u8) -> bool
 
 // A number, and nothing written.
 fn refuse(res: u8) -> Returned
-    ensures* { λ a. ⌜ a ≡ record { result = res; reports = 0 } ⌝ }
+    ensures { result ≡ record { result = res; reports = 0 } }
 {
     Returned {
         reports: 0,
