@@ -1,7 +1,8 @@
 -- What a contract asks and promises, as plain types, and that a routine meets it. T is the signature of a function, with what its contract sees at exit.
 use Rattle.std.specs.Prelude.{◌≡◌}
 use base.Logic.{SProp, emp}
-use prog.Routine.{Routine}
+use mir.Syntax.{Callee}
+use prog.Wired.{Code, Wired}
 use contract.Monad.{fact}
 use contract.Lifetimes.{Lfts}
 use denote.Triple.Entry.{Args, Res}
@@ -54,17 +55,17 @@ clauses_of T R P w κs a = record {
   ensures = λ g x e. fact w.𝓤 (P κs a x e);
 }
 
--- r is the routine of a function, what the machine does on a call of it. In every model of the logic a call that meets R ends, with an answer and arguments at exit of
+-- A function is known by its name and its code. In every model of the logic, where names mean that code, a call that meets R ends, with an answer and arguments at exit of
 -- which P holds.
-abbrev pub MeetsContract : (T : Ended) → Routine → Requires T → Promise T → Type 2
-MeetsContract T r R P =
-    (w : World) → Meets w.𝓛 T.signature (w.𝓡.run r)
+abbrev pub MeetsContract : (T : Ended) → Callee → Code → Requires T → Promise T → Type 2
+MeetsContract T name code R P =
+    (w : World) → Wired w.𝓡.env code → Meets w.𝓛 T.signature (w.𝓡.run (w.𝓡.env name))
     (closing w.𝓛 T (clauses_of T R P w))
 
 -- .. a call with arguments of which Q holds, and nothing else is asked.
-abbrev pub RoutineMeets : (T : Ended) → Routine → Asking T → Promise T → Type 2
-RoutineMeets T r Q P = MeetsContract T r (λ κs a g w. fact w.𝓤 (Q κs a)) P
+abbrev pub RoutineMeets : (T : Ended) → Callee → Code → Asking T → Promise T → Type 2
+RoutineMeets T name code Q P = MeetsContract T name code (λ κs a g w. fact w.𝓤 (Q κs a)) P
 
 -- .. a call with any arguments.
-abbrev pub RoutineAlwaysMeets : (T : Ended) → Routine → Promise T → Type 2
-RoutineAlwaysMeets T r P = MeetsContract T r (λ κs a g w. emp w.𝓤) P
+abbrev pub RoutineAlwaysMeets : (T : Ended) → Callee → Code → Promise T → Type 2
+RoutineAlwaysMeets T name code P = MeetsContract T name code (λ κs a g w. emp w.𝓤) P

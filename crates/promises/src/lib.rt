@@ -2,4 +2,3 @@
 // Follows the demands, and 01, section Twelve examples to be proved, and what promises owe.
 // Stands on every crate of the library.
 #![tactic(auto)]
-

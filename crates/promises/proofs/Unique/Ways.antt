@@ -1,10 +1,11 @@
 -- The public functions of ways leave no choice: one answer. Assumes nothing.
 use mathlib.Core.Path.{refl, sym, ◌∙◌}
+use Rattle.ways.specs.contracts as ways_contract
 use Rattle.ways.proofs as ways
 use Rattle.promises.specs.Unique.{Fixes}
 
-pub way-to_unique : Fixes ways.way_to.ended ways.way_to.Reads.ensures ways.way_to.Reads.Post
+pub way-to_unique : Fixes ways_contract.way_to.ended ways.way_to.Reads.ensures ways.way_to.Reads.Post
 way-to_unique = (λ w κs a x e. refl, λ κs a x y e f p q. p ∙ sym q)
 
-pub number_unique : Fixes ways.number.ended ways.number.Reads.ensures ways.number.Reads.Post
+pub number_unique : Fixes ways_contract.number.ended ways.number.Reads.ensures ways.number.Reads.Post
 number_unique = (λ w κs a x e. refl, λ κs a x y e f p q. p ∙ sym q)

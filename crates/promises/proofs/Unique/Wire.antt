@@ -2,41 +2,42 @@
 use Prim.Native.Nat.{ℕ}
 use mathlib.Core.Path.{refl, sym, ◌∙◌}
 use mathlib.Core.List.{List}
+use Rattle.wire.specs.contracts as wire_contract
 use Rattle.wire.proofs as wire
 use Rattle.promises.specs.Unique.{Fixes, FixesPart}
 
-pub byte-at_unique : Fixes wire.byte_at.ended wire.byte_at.Reads.ensures wire.byte_at.Reads.Post
+pub byte-at_unique : Fixes wire_contract.byte_at.ended wire.byte_at.Reads.ensures wire.byte_at.Reads.Post
 byte-at_unique = (λ w κs a x e. refl, λ κs a x y e f p q. p ∙ sym q)
 
-pub word_at_unique : Fixes wire.word_at.ended wire.word_at.Reads.ensures wire.word_at.Reads.Post
+pub word_at_unique : Fixes wire_contract.word_at.ended wire.word_at.Reads.ensures wire.word_at.Reads.Post
 word_at_unique = (λ w κs a x e. refl, λ κs a x y e f p q. p ∙ sym q)
 
-pub high_word_at_unique : Fixes wire.high_word_at.ended wire.high_word_at.Reads.ensures wire.high_word_at.Reads.Post
+pub high_word_at_unique : Fixes wire_contract.high_word_at.ended wire.high_word_at.Reads.ensures wire.high_word_at.Reads.Post
 high_word_at_unique = (λ w κs a x e. refl, λ κs a x y e f p q. p ∙ sym q)
 
-pub joined_unique : Fixes wire.joined.ended wire.joined.Reads.ensures wire.joined.Reads.Post
+pub joined_unique : Fixes wire_contract.joined.ended wire.joined.Reads.ensures wire.joined.Reads.Post
 joined_unique = (λ w κs a x e. refl, λ κs a x y e f p q. p ∙ sym q)
 
-pub address-at_unique : Fixes wire.address_at.ended wire.address_at.Reads.ensures wire.address_at.Reads.Post
+pub address-at_unique : Fixes wire_contract.address_at.ended wire.address_at.Reads.ensures wire.address_at.Reads.Post
 address-at_unique = (λ w κs a x e. refl, λ κs a x y e f p q. p ∙ sym q)
 
-pub odd-first_unique : Fixes wire.odd_first.ended wire.odd_first.Reads.ensures wire.odd_first.Reads.Post
+pub odd-first_unique : Fixes wire_contract.odd_first.ended wire.odd_first.Reads.ensures wire.odd_first.Reads.Post
 odd-first_unique = (λ w κs a x e. refl, λ κs a x y e f p q. p ∙ sym q)
 
-pub broken_unique : Fixes wire.broken.ended wire.broken.Reads.ensures wire.broken.Reads.Post
+pub broken_unique : Fixes wire_contract.broken.ended wire.broken.Reads.ensures wire.broken.Reads.Post
 broken_unique = (λ w κs a x e. refl, λ κs a x y e f p q. p ∙ sym q)
 
-pub read_head_unique : Fixes wire.read_head.ended wire.read_head.Reads.ensures wire.read_head.Reads.Post
+pub read_head_unique : Fixes wire_contract.read_head.ended wire.read_head.Reads.ensures wire.read_head.Reads.Post
 read_head_unique = (λ w κs a x e. refl, λ κs a x y e f p q. p ∙ sym q)
 
 -- The contract speaks of what the answer shows, not of where it lies.
-pub body_unique : FixesPart wire.body.ended (λ κs. List ℕ) (λ κs x e. x.now) wire.body.Reads.ensures wire.body.Reads.Post
+pub body_unique : FixesPart wire_contract.body.ended (λ κs. List ℕ) (λ κs x e. x.now) wire.body.Reads.ensures wire.body.Reads.Post
 body_unique = (λ w κs a x e. refl, λ κs a x y e f p q. p ∙ sym q)
 
-pub put-report_unique : Fixes wire.put_report.ended wire.put_report.Reads.ensures wire.put_report.Reads.Post
+pub put-report_unique : Fixes wire_contract.put_report.ended wire.put_report.Reads.ensures wire.put_report.Reads.Post
 put-report_unique = (λ w κs a x e. refl, λ κs a x y e f p q. p.room ∙ sym q.room)
 
 pub put-report-content-unique :
-    FixesPart wire.put_report.ended (λ κs. List ℕ) (λ κs x e. e.0.now)
+    FixesPart wire_contract.put_report.ended (λ κs. List ℕ) (λ κs x e. e.0.now)
     wire.put_report.Reads.ensures wire.put_report.Reads.Post
 put-report-content-unique = (λ w κs a x e. refl, λ κs a x y e f p q. p.content ∙ sym q.content)

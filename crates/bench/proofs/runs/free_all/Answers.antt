@@ -1,0 +1,16 @@
+-- Every question has the same answer, and what the calls left will add is what the sum lacks. Assumes nothing.
+use Prim.Native.Nat.{◌*◌}
+use borrow.Author.Rules.{rules}
+use Rattle.controller.specs.Node.{node, state_of}
+use Rattle.bandwidth.specs.Free.{free_bandwidth}
+use Rattle.bench.specs.Runs.{freed}
+use Rattle.bench.proofs.Turns.{Run, same_turn, same_done}
+use Rattle.bench.proofs.runs.free_all.Goals as goal
+
+pub loop-left-preserved : goal.loop-left-preserved
+loop-left-preserved c =
+    same_turn _ c.loop-left.invariant c.loop-left-test.true (rw c.same_rate.ensures at c.free_sum-sum.ensures.0)
+    c.free_sum-sum.ensures.1
+
+pub returns : goal.returns
+returns c = same_done _ c.loop-left.invariant c.loop-left-test.false

@@ -1,0 +1,15 @@
+-- Every question has the same answer, and what the calls left will add is what the sum lacks. Assumes nothing.
+use Prim.Native.Nat.{◌*◌}
+use borrow.Author.Rules.{rules}
+use Rattle.controller.specs.Node.{node, state_of, steering}
+use Rattle.bench.specs.Runs.{pointed}
+use Rattle.bench.proofs.Turns.{Run, same_turn, same_done}
+use Rattle.bench.proofs.runs.steer_all.Goals as goal
+
+pub loop-left-preserved : goal.loop-left-preserved
+loop-left-preserved c =
+    same_turn _ c.loop-left.invariant c.loop-left-test.true (rw c.still.ensures at c.way_sum-sum.ensures.0)
+    c.way_sum-sum.ensures.1
+
+pub returns : goal.returns
+returns c = same_done _ c.loop-left.invariant c.loop-left-test.false
