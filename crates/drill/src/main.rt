@@ -12,8 +12,10 @@ ghost use Rattle.controller.specs.Node.{node};
 ghost use Rattle.drill.specs.Promise.{turn_in, Taken, Ran};
 
 use controller::{OWN_WORDS, ROW_WORDS};
-use libc::STDOUT_FILENO;
 use turn::Turn;
+
+// Standard output.
+const OUTPUT: i32 = 1;
 
 fn main() {
     let mut own = [0; OWN_WORDS];
@@ -23,7 +25,7 @@ fn main() {
     let mut line = [0u8; 147];
     let t = turn::begin(&mut own, &mut rows, read, &buf, &mut line);
     let length = t.length;
-    io::write_all(STDOUT_FILENO, &line[..length]);
+    io::write_all(OUTPUT, &line[..length]);
     if t.more {
         run(&mut own, &mut rows);
     }
@@ -61,6 +63,6 @@ fn next(own: &mut [u64; OWN_WORDS], rows: &mut [u64; ROW_WORDS], number: u64) ->
     let mut line = [0u8; 147];
     let t = turn::take_turn(own, rows, number, read, &buf, &mut line);
     let length = t.length;
-    io::write_all(STDOUT_FILENO, &line[..length]);
+    io::write_all(OUTPUT, &line[..length]);
     t
 }

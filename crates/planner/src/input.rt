@@ -2,7 +2,8 @@
 ghost use Rattle.std.specs.Prelude.{◌≡◌, length};
 ghost use Rattle.planner.specs.Question.{Within};
 
-use libc::STDIN_FILENO;
+// Standard input.
+const INPUT: i32 = 0;
 
 // What was read: nothing, as the input has ended; a record that is cut or has a wrong length; a whole one, up to an end in the buffer.
 #[derive(Clone, Copy)]
@@ -17,7 +18,7 @@ pub(crate) fn read_record(buf: &mut [u8]) -> Input
     requires { length buf.old ≡ 1035 }
     ensures { Within result buf.new }
 {
-    let got = io::read_full(STDIN_FILENO, &mut buf[..2]);
+    let got = io::read_full(INPUT, &mut buf[..2]);
     if got == 0 {
         return Input::Nothing;
     }
@@ -26,7 +27,7 @@ pub(crate) fn read_record(buf: &mut [u8]) -> Input
         return Input::Cut;
     }
     let end = length + 2;
-    let body = io::read_full(STDIN_FILENO, &mut buf[2..end]);
+    let body = io::read_full(INPUT, &mut buf[2..end]);
     if body < length {
         return Input::Cut;
     }

@@ -2,17 +2,19 @@
 ghost use Rattle.std.specs.Prelude.{◌≡◌, cond, nat_abs};
 
 use bandwidth::Free;
-use libc::STDOUT_FILENO;
+
+// Standard output.
+const OUTPUT: i32 = 1;
 
 // A number and a space behind it.
 fn print_field(n: u64) {
-    io::print_decimal(STDOUT_FILENO, n);
-    io::write_all(STDOUT_FILENO, b" ");
+    io::print_decimal(OUTPUT, n);
+    io::write_all(OUTPUT, b" ");
 }
 
 fn print_last(n: u64) {
-    io::print_decimal(STDOUT_FILENO, n);
-    io::write_all(STDOUT_FILENO, b"\n");
+    io::print_decimal(OUTPUT, n);
+    io::write_all(OUTPUT, b"\n");
 }
 
 // A number without its sign.
@@ -28,7 +30,7 @@ fn magnitude(x: i32) -> u64
 
 fn print_signed(x: i32) {
     if x < 0 {
-        io::write_all(STDOUT_FILENO, b"-");
+        io::write_all(OUTPUT, b"-");
     }
     print_field(magnitude(x));
 }
@@ -55,11 +57,11 @@ pub(crate) fn print_free(x: Free) {
 
 // A record that was cut or had a wrong length: 2.
 pub(crate) fn print_cut() {
-    io::write_all(STDOUT_FILENO, b"2 0 0 0 0\n");
+    io::write_all(OUTPUT, b"2 0 0 0 0\n");
 }
 
 // Refused settings: the word and the number.
 pub(crate) fn print_settings(res: u8) {
-    io::write_all(STDOUT_FILENO, b"settings ");
+    io::write_all(OUTPUT, b"settings ");
     print_last(res as u64);
 }

@@ -2,7 +2,6 @@
 use Rattle.std.specs.Prelude.{◌≡◌}
 use Rattle.pacer.specs.Pace.{paced}
 use Rattle.pacer.specs.contracts as pacer_contract
-use Rattle.pacer.proofs as pacer
 use Rattle.promises.specs.Contracts.{Promise}
 
 abbrev pub pace_promise : Promise pacer_contract.pace.ended

@@ -8,7 +8,6 @@ use Rattle.wire.specs.Head.{body_of}
 use Rattle.wire.specs.Report.{over}
 use Rattle.stations.specs.Hearing.{Placed}
 use Rattle.controller.specs.declared.reading.Reading.{Reading}
-use Rattle.controller.specs.declared.reading.Reading.TheVariants.{Tick}
 use Rattle.controller.specs.Reading.{block_of, count_in, reading, many_ticks}
 use Rattle.controller.specs.State.{Spans, State}
 use Rattle.controller.specs.Handling.{acted, judged}

@@ -1,7 +1,7 @@
 -- 02, Item 6: "Room for every station a ring can show." A report of a new station that is taken leaves the station in the table, at the hop it was heard at. Assumes nothing.
 use Prim.Native.Nat.{ℕ, ◌≤◌}
 use mathlib.Core.Path.{◌≡◌, refl, sym, ◌∙◌, ap}
-use mathlib.Core.Bool.{Bool, true, false, cond, not, ◌&&◌, ◌||◌, or-true, true≢false, false≢true}
+use mathlib.Core.Bool.{Bool, true, false, cond, ◌&&◌, ◌||◌, or-true, true≢false, false≢true}
 use mathlib.Core.List.{List, [], ◌∷◌}
 use mathlib.Core.Option.{none}
 use native.Mathlib.Omega.{arith}
@@ -13,7 +13,7 @@ use Rattle.settings.specs.declared.choice.Ticks.{Ticks}
 use Rattle.spans.specs.Requests.{down}
 use Rattle.stations.specs.declared.station.Station.{Station}
 use Rattle.stations.specs.declared.station.Report.{Report}
-use Rattle.stations.specs.Station.{hop, Same, placed_somewhere, with_hop, newcomer}
+use Rattle.stations.specs.Station.{hop, Same, with_hop, newcomer}
 use Rattle.stations.specs.Stations.{sifted, unpurged, purged, displaced, inserted, sequence_of}
 use Rattle.stations.specs.Hearing.{Placed, placed, placed_new}
 use Rattle.stations.proofs.Lists.{chosen}

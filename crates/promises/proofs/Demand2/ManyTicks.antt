@@ -1,6 +1,6 @@
 -- 02, Item 4: one record of kind 7 with n leaves what n records of kind 1 with the same room leave, of every node that is kept: the node, the reports one after another, and their number.
 -- Assumes nothing.
-use Prim.Native.Nat.{ℕ, zero, suc, ◌+◌, ◌*◌, ◌≤◌}
+use Prim.Native.Nat.{ℕ, zero, suc, ◌*◌, ◌≤◌}
 use mathlib.Core.Path.{◌≡◌, refl, sym, ◌∙◌, ap}
 use mathlib.Core.Bool.{true}
 use mathlib.Core.List.{List, [], ◌∷◌, ◌++◌, append-nil, append_assoc}
@@ -19,7 +19,7 @@ use Rattle.controller.specs.Kept.{Kept}
 use Rattle.controller.specs.Promise.{Recorded}
 use Rattle.controller.proofs.Manys.{one_event}
 use Rattle.controller.proofs.Ticking.{Reports, reports-number, reports_both, ticking-result}
-use Rattle.promises.specs.History.{Call, after, tick_with, after_all, Made, made_of, Met, AnsweredAs}
+use Rattle.promises.specs.History.{Call, tick_with, after_all, Made, made_of, Met, AnsweredAs}
 use Rattle.promises.specs.ManyTicks.{told_all, reports_left, all_reports, all_numbers, from, SameAs}
 use Rattle.promises.proofs.Demand2.Spelling.{tick-outcome, next-tick, outcomes-one, outcomes-many, many-room}
 use Rattle.promises.proofs.Demand2.Coming.{node_came, came_answered}

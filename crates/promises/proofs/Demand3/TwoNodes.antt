@@ -18,10 +18,10 @@ use Rattle.controller.specs.Node.{Started, choice_of, state_of, reports_in}
 use Rattle.controller.specs.State.{Choice, State, started}
 use Rattle.controller.specs.declared.reading.Reading.TheVariants.{Tick}
 use Rattle.controller.specs.Reading.{count_in}
-use Rattle.controller.specs.Record.{Outcome, outcome, outcome_of, ticking}
+use Rattle.controller.specs.Record.{Outcome, outcome_of, ticking}
 use Rattle.controller.proofs.Ticking.{ticking-result}
 use Rattle.controller.specs.Promise.{Begun}
-use Rattle.promises.specs.History.{Call, after, answered, tick_with, spelled, spelled_out, after_all, answered_all, start_of, Made, call_of, made_of, calls_of, node_after, Met}
+use Rattle.promises.specs.History.{Call, after, answered, tick_with, spelled_out, after_all, answered_all, start_of, Made, call_of, made_of, calls_of, node_after, Met}
 use Rattle.promises.specs.Levels.{NoEight, latest, no_blocks, knowing, dressed, Levelled, SameAnswer, SameCall, with_level, NoEightMade}
 use Rattle.promises.proofs.Demand3.Following.{answers, follows, levels}
 use Rattle.promises.proofs.Demand3.Latest.{latest_alike}

@@ -6,7 +6,6 @@ use mathlib.Core.List.{List}
 use lib.Dec.{eqb}
 use borrow.Author.Tests.{eq-eqb}
 use Rattle.settings.specs.declared.choice.Ticks.{Ticks}
-use Rattle.spans.specs.declared.span.Span.{Span}
 use Rattle.spans.specs.Requests.{down, request}
 use Rattle.pacer.specs.declared.steps.Pacer.{Pacer}
 use Rattle.pacer.specs.Pace.{paced}

@@ -16,7 +16,7 @@ use Rattle.controller.specs.declared.reading.Reading.{Reading}
 use Rattle.controller.specs.declared.reading.Reading.TheVariants.{Refused, Tick, Link, Keepalive, Operator, Heard, Block}
 use Rattle.controller.specs.Reading.{block_of}
 use Rattle.controller.specs.State.{Choice, Spans, State, span_of, with_span}
-use Rattle.controller.specs.Handling.{cabled, acted, gives, hearing, learning, judged}
+use Rattle.controller.specs.Handling.{cabled, acted, gives, learning, judged}
 use Rattle.controller.specs.Closing.{is_tick, settled}
 use Rattle.controller.specs.Record.{Outcome, refusal, closed, unless_refused, outcome_of, outcome}
 use Rattle.controller.proofs.Packing.{settled-none}

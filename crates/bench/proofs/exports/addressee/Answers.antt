@@ -1,6 +1,5 @@
 -- Each number has its address. Assumes nothing.
 use borrow.Author.Tests.{ne_eqb}
-use borrow.Author.Rules.{rules}
 use Rattle.bench.specs.Runs.{addressee}
 use native.Mathlib.Omega.{arith}
 use Rattle.bench.proofs.exports.addressee.Goals as goal

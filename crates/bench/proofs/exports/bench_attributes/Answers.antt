@@ -1,5 +1,4 @@
 -- The run is that of the node and of the address that the number picks. Assumes nothing.
-use borrow.Author.Rules.{rules}
 use Rattle.bench.proofs.exports.bench_attributes.Goals as goal
 
 pub returns : goal.returns

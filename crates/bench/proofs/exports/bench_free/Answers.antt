@@ -1,5 +1,4 @@
 -- The run is that of the ring. Assumes nothing.
-use borrow.Author.Rules.{rules}
 use Rattle.bench.proofs.exports.bench_free.Goals as goal
 
 pub returns : goal.returns

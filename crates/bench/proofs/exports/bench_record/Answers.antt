@@ -1,7 +1,6 @@
 -- The run is that of the node and of the record that the number picks. Assumes nothing.
 use lib.ListN.{length-take}
 use native.Mathlib.Omega.{arith}
-use borrow.Author.Rules.{rules}
 use Rattle.bench.proofs.exports.bench_record.Goals as goal
 
 pub slice_bounds-carry-end : goal.slice_bounds-carry-end

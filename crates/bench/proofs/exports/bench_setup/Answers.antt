@@ -1,5 +1,4 @@
 -- The count is that of the ring. Assumes nothing.
-use borrow.Author.Rules.{rules}
 use Rattle.bench.proofs.exports.bench_setup.Goals as goal
 
 pub returns : goal.returns

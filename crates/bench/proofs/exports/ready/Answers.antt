@@ -1,6 +1,5 @@
 -- The ring, or the ring parted. Assumes nothing.
 use borrow.Author.Tests.{ne_eqb}
-use borrow.Author.Rules.{rules}
 use Rattle.bench.specs.Runs.{readied}
 use Rattle.bench.proofs.exports.ready.Goals as goal
 

@@ -1,6 +1,5 @@
 -- The ring, or the ring with both spans forced. Assumes nothing.
 use borrow.Author.Tests.{lt-ltb, le-ltb}
-use borrow.Author.Rules.{rules}
 use Rattle.bench.specs.Runs.{standing}
 use Rattle.bench.proofs.exports.stand.Goals as goal
 

@@ -1,7 +1,6 @@
 -- More stations than hops, and not. Assumes nothing.
 use native.Mathlib.Omega.{arith}
 use borrow.Author.Tests.{lt-ltb, le-ltb}
-use borrow.Author.Rules.{rules}
 use Rattle.bench.proofs.records.middle.Goals as goal
 
 pub returns-then-stations-gt-FARTHEST_HOP : goal.returns-then-stations-gt-FARTHEST_HOP

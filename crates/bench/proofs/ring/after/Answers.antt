@@ -2,7 +2,6 @@
 use mathlib.Core.Path.{ap}
 use lib.ListN.{length-take}
 use native.Mathlib.Omega.{arith}
-use borrow.Author.Rules.{rules}
 use Rattle.controller.specs.Node.{Answer}
 use Rattle.bench.specs.Ring.{taken, taken_in}
 use Rattle.bench.proofs.ring.after.Goals as goal

@@ -1,7 +1,6 @@
 -- Above the places, and not. Assumes nothing.
 use native.Mathlib.Omega.{arith}
 use borrow.Author.Tests.{lt-ltb, le-ltb}
-use borrow.Author.Rules.{rules}
 use Rattle.bench.proofs.ring.capped.Goals as goal
 
 pub returns-then-stations-gt-PLACES : goal.returns-then-stations-gt-PLACES

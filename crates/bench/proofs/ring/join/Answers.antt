@@ -1,6 +1,5 @@
 -- More stations than hops are those of two rings. Assumes nothing.
 use borrow.Author.Tests.{lt-ltb, le-ltb}
-use borrow.Author.Rules.{rules}
 use Rattle.bench.specs.Ring.{joined}
 use Rattle.bench.proofs.ring.join.Goals as goal
 

@@ -1,6 +1,5 @@
 -- The one report that `alone` names. Assumes nothing.
 use borrow.Author.Tests.{lt-ltb, le-ltb}
-use borrow.Author.Rules.{rules}
 use Rattle.bench.specs.Ring.{alone}
 use Rattle.bench.proofs.Taking.{one-taken}
 use Rattle.bench.proofs.ring.join_alone.Goals as goal

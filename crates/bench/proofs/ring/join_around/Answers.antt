@@ -1,5 +1,4 @@
 -- The two reports that `around` names, one after the other. Assumes nothing.
-use borrow.Author.Rules.{rules}
 use Rattle.bench.specs.Ring.{around}
 use Rattle.bench.proofs.Taking.{both_taken}
 use Rattle.bench.proofs.ring.join_around.Goals as goal

@@ -1,5 +1,4 @@
 -- The one report that `parted` names. Assumes nothing.
-use borrow.Author.Rules.{rules}
 use Rattle.bench.specs.Ring.{parted}
 use Rattle.bench.proofs.Taking.{one-taken}
 use Rattle.bench.proofs.ring.part.Goals as goal

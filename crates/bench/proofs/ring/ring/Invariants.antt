@@ -1,11 +1,7 @@
 -- After k turns the first k stations were heard. Assumes nothing.
 use Prim.Native.Nat.{◌-◌, ◌≤◌}
-use mathlib.Core.Path.{◌≡◌, ◌∙◌, ap}
-use native.Mathlib.Omega.{arith}
-use native.Mathlib.Numerals.{add-one}
-use borrow.Author.Rules.{rules}
-use Rattle.controller.specs.Node.{Started, node}
-use Rattle.bench.specs.Ring.{Stands, ring_to, ring_of}
+use Rattle.controller.specs.Node.{node}
+use Rattle.bench.specs.Ring.{Stands, ring_to}
 use Rattle.bench.proofs.ring.ring.Given as goal
 
 abbrev pub invariant-loop-k : goal.invariant-loop-k

@@ -1,5 +1,4 @@
 -- The lent buffer has the seven bytes of room that `taken` names. Assumes nothing.
-use borrow.Author.Rules.{rules}
 use Rattle.bench.specs.Ring.{taken_in}
 use Rattle.bench.proofs.ring.take.Goals as goal
 

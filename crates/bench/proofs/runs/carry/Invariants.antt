@@ -1,12 +1,10 @@
 -- What the calls left will add, from the node as it is, is what the sum lacks; the room stays that of the buffer. Assumes nothing.
 use mathlib.Core.Path.{◌≡◌}
-use native.Mathlib.Omega.{arith}
 use lib.ListN.{length}
-use borrow.Author.Rules.{rules}
 use Rattle.controller.specs.Kept.{Kept}
 use Rattle.controller.specs.Node.{node}
 use Rattle.bench.specs.Runs.{carried}
-use Rattle.bench.proofs.Turns.{Carry, carry-turn, carry_done, carried-turn, carried_done, takes, still-long}
+use Rattle.bench.proofs.Turns.{Carry}
 use Rattle.bench.proofs.runs.carry.Given as goal
 
 abbrev pub invariant-loop-left : goal.invariant-loop-left

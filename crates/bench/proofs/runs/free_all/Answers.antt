@@ -1,10 +1,5 @@
 -- Every question has the same answer, and what the calls left will add is what the sum lacks. Assumes nothing.
-use Prim.Native.Nat.{◌*◌}
-use borrow.Author.Rules.{rules}
-use Rattle.controller.specs.Node.{node, state_of}
-use Rattle.bandwidth.specs.Free.{free_bandwidth}
-use Rattle.bench.specs.Runs.{freed}
-use Rattle.bench.proofs.Turns.{Run, same_turn, same_done}
+use Rattle.bench.proofs.Turns.{same_turn, same_done}
 use Rattle.bench.proofs.runs.free_all.Goals as goal
 
 pub loop-left-preserved : goal.loop-left-preserved

@@ -1,6 +1,5 @@
 -- The result and the defect of the answer. Assumes nothing.
 use mathlib.Core.Path.{◌∙◌, ap}
-use borrow.Author.Rules.{rules}
 use Rattle.bench.specs.Runs.{freed}
 use Rattle.bench.proofs.runs.free_sum.Goals as goal
 

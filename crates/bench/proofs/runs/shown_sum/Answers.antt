@@ -1,6 +1,5 @@
 -- The answer is that of `asked`, and both its fields are bytes. Assumes nothing.
 use native.Mathlib.Omega.{arith}
-use borrow.Author.Rules.{rules}
 use Rattle.bench.proofs.runs.shown_sum.Goals as goal
 
 pub returns : goal.returns

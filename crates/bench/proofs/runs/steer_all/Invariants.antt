@@ -1,9 +1,8 @@
 -- Every question has the same answer, and what the calls left will add is what the sum lacks. Assumes nothing.
 use Prim.Native.Nat.{◌*◌}
-use borrow.Author.Rules.{rules}
 use Rattle.controller.specs.Node.{node, state_of, steering}
 use Rattle.bench.specs.Runs.{pointed}
-use Rattle.bench.proofs.Turns.{Run, same_turn, same_done}
+use Rattle.bench.proofs.Turns.{Run}
 use Rattle.bench.proofs.runs.steer_all.Given as goal
 
 abbrev pub invariant-loop-left : goal.invariant-loop-left

@@ -1,6 +1,5 @@
 -- A report that was written counts 256. Assumes nothing.
 use native.Mathlib.Omega.{arith}
-use borrow.Author.Rules.{rules}
 use Rattle.bench.proofs.runs.told.Goals as goal
 
 pub returns-then-excess : goal.returns-then-excess

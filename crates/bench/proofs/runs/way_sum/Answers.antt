@@ -1,7 +1,6 @@
 -- The answer is that of `steering`, its reply decides how far it is read, and each of its numbers is a byte. Assumes nothing.
 use native.Mathlib.Omega.{arith}
 use borrow.Author.Tests.{lt-ltb, le-ltb}
-use borrow.Author.Rules.{rules}
 use Rattle.bench.proofs.runs.way_sum.Goals as goal
 
 pub returns-then-n-lt2 : goal.returns-then-n-lt2
