@@ -1,7 +1,7 @@
 #!/usr/bin/env python3
 """Brings this repository's own definitions and lemmas to the spelling of today's Rattle, once, after port.py: words in snake case, modules in camel case.
 
-A word in camel case becomes snake case. A dash in the name of a definition or a field becomes an underscore; in the name of a lemma it stays between two names (of definitions, fields or functions) and becomes an
+A word in camel case becomes snake case. A dash in the name of a definition or a field becomes an underscore; in the name of a lemma it stays between two names (of definitions or functions) and becomes an
 underscore elsewhere; one that would have its definition's name gets `_lem`. A value that begins with a capital becomes small, but for the names that the documents give (WTR, B, LF ..). Folders of theorems get a capital. Names that would fall together are told, and
 nothing is written. Run at the top: tools/respell.py [FOLDER]
 """
@@ -15,7 +15,7 @@ import sys
 ROOT = sys.argv[1] if len(sys.argv) > 1 else "."
 NAME = r"[^\W\d][\w'′]*(?:-[\w'′]+)*"
 TOKEN = re.compile(r"(?<![\w'′-])" + NAME)
-DECLARED = re.compile(r"^(\s*)((?:(?:abbrev|unfoldable|pub|data|record|ruleset)\s+)*)(" + NAME + r"(?:\s+" + NAME + r")*)((?:\s+[({].*?)?)\s*:\s(.*)$")
+DECLARED = re.compile(r"^(\s*)((?:(?:abbrev|unfoldable|pub|data|record|ruleset)\s+)*)(" + NAME + r"(?:\s+" + NAME + r")*)((?:\s+[({].*?)?)\s*:(?:\s(.*))?$")
 # Names that the documents give, or that Rust constants have.
 KEPT = {"FS", "SF", "SD", "MS", "WTR", "IDLE", "LF"}
 # Words of the library that lemmas here speak of.
@@ -54,8 +54,10 @@ class Declared:
             if not found:
                 continue
             indent, marks, names, _, kind = found.groups()
+            kind = kind or ""
             follow = at + 1
-            while follow < len(lines) and re.match(r"^\s+(→|->)", lines[follow]):
+            alone = not kind.strip()
+            while follow < len(lines) and re.match(r"^\s+\S" if alone else r"^\s+(→|->)", lines[follow]):
                 kind += " " + lines[follow].strip()
                 follow += 1
             names = [n for n in names.split() if n not in ("where",)]
@@ -76,8 +78,12 @@ class Declared:
                     self.words.add(name)
 
 
-def lemma(name, known):
-    parts = snake(name).split("-")
+def lemma(name, known, functions):
+    name = snake(name)
+    for function in sorted(functions, key=len, reverse=True):
+        if "_" in function:
+            name = re.sub(rf"(^|-){function.replace('_', '-')}(?=-|$)", lambda m: m.group(1) + function, name)
+    parts = name.split("-")
     out = parts[0]
     for left, right in zip(parts, parts[1:]):
         out += ("-" if left in known and right in known else "_") + right
@@ -85,7 +91,7 @@ def lemma(name, known):
 
 
 def renamed(d, functions):
-    words = {snake(w).replace("-", "_") for w in d.words | d.fields | d.types}
+    words = {snake(w).replace("-", "_") for w in d.words | d.types}
     known = words | functions | LIBRARY
     to = {}
     for name in d.words | d.fields:
@@ -94,7 +100,7 @@ def renamed(d, functions):
             new = new.lower()
         to[name] = new
     for name in d.lemmas - d.words - d.fields:
-        new = lemma(name, known)
+        new = lemma(name, known, functions)
         if new in words:
             new += "_lem"
         if new[0].isupper() and name not in KEPT and len(name) > 1 and name not in d.types:
@@ -133,6 +139,22 @@ def turned(text, to, fields, code):
     return TOKEN.sub(put, text)
 
 
+def in_clauses(text, change):
+    """What `change` makes of a source: its imports for clauses and its clauses alone."""
+    out, at = [], 0
+    for head in re.finditer(r"\bghost use [^;]*;|\b(?:requires|ensures)\*?(?: \w+)? \{", text):
+        if head.start() < at:
+            continue
+        end = head.end()
+        depth = 0 if text[end - 1] == ";" else 1
+        while depth:
+            depth += {"{": 1, "}": -1}.get(text[end], 0)
+            end += 1
+        out += [text[at:head.start()], change(text[head.start():end])]
+        at = end
+    return "".join(out) + text[at:]
+
+
 def main():
     antt = files("crates/*/specs/**/*.antt", "crates/*/proofs/**/*.antt")
     rust = files("crates/*/src/**/*.rt")
@@ -151,7 +173,8 @@ def main():
     for path in antt + rust + files("crates/*/must-fail/*.edit"):
         old = open(path).read()
         known["aliases"] = set(re.findall(r"\bas (\w+)", old)) - {"tie", "goal"}
-        new = turned(old, to, known, True)
+        change = lambda part: turned(part, to, known, True)
+        new = in_clauses(old, change) if path in rust else change(old)
         for folder in FOLDERS:
             new = re.sub(rf"(Rattle\.promises\.proofs|crates/promises/proofs|proofs)([./]){folder}\b(?=[./]?(?:[A-Z]|\{{|antt|$))", lambda m: m.group(1) + m.group(2) + folder.capitalize(), new)
             if "/promises/proofs/Lib.antt" in path:

@@ -47,9 +47,9 @@ module _ (s : State) where
   unfolding free_bandwidth knows among
   one-behind = refl
 
-  pub two-behind : free_bandwidth (holding s 2 (late 3 ∷ station 4 2 0 100 10 ∷ late 5 ∷ [])) 1000 0 0 ≡ refused 31 3
+  pub two_behind : free_bandwidth (holding s 2 (late 3 ∷ station 4 2 0 100 10 ∷ late 5 ∷ [])) 1000 0 0 ≡ refused 31 3
   unfolding free_bandwidth knows among
-  two-behind = refl
+  two_behind = refl
 
   -- "before it, 4 for a link rate out of range, then 32 at level 1".
   pub level-before-behind : free_bandwidth (holding s 1 (late 3 ∷ [])) 1000 0 0 ≡ refused 32 0

@@ -15,7 +15,7 @@ use Rattle.stations.specs.declared.station.Station.{Station}
 use Rattle.stations.specs.Stations.{capacity}
 use Rattle.stations.specs.Table.{Each, blank}
 use Rattle.stations.specs.Rows.{InRange, RowsKept, stations_in}
-use Rattle.stations.proofs.Reading.{count_long, count-few}
+use Rattle.stations.proofs.Reading.{count_long, count_few}
 use Rattle.bandwidth.specs.Free.{reservation, reservations, first_behind}
 use Rattle.bandwidth.specs.Steps.{Sums, sums_with, sums_of}
 
@@ -34,7 +34,7 @@ reservations-low ringlet (s ∷ l) e = omega (arith, reservation-low ringlet s e
 
 pub rows-low : {w : List ℕ} (ringlet : ℕ) → RowsKept w → reservations ringlet (stations_in w) ≤ 65535 * capacity
 rows-low {w} ringlet k =
-    omega (arith, reservations-low ringlet (stations_in w) k.held.ranges, count_long k.held, count-few k.held)
+    omega (arith, reservations-low ringlet (stations_in w) k.held.ranges, count_long k.held, count_few k.held)
 
 pub sums_low : {w : List ℕ} {r : Sums} → RowsKept w → r ≡ sums_of (stations_in w) → (r.ringlet0 ≤ 65535 * capacity) × (r.ringlet1 ≤ 65535 * capacity)
 sums_low {w} k e = rw e (go (first_behind (stations_in w)))
@@ -117,4 +117,4 @@ module _ {l : List Station} {i x y : ℕ} (k : Summed l i x y) where
 
 -- A sum over some of the stations, with one more.
 pub sum_fits : {w : List ℕ} {n i x y : ℕ} → RowsKept w → n ≡ length (stations_in w) → i < n → x ≤ 65535 * i → y < 2 ^ 16 → Fits w32 (x + y)
-sum_fits k e p q r = record { fits = omega (arith, count_long k.held, count-few k.held) }
+sum_fits k e p q r = record { fits = omega (arith, count_long k.held, count_few k.held) }

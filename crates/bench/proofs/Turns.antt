@@ -8,7 +8,7 @@ use lib.ListN.{length}
 use Rattle.controller.specs.Node.{Node, Answer, state_of, answer_of}
 use Rattle.controller.specs.Promise.{Recorded}
 use Rattle.controller.specs.Record.{outcomes}
-use Rattle.controller.proofs.Ticking.{over-long}
+use Rattle.controller.proofs.Ticking.{over_long}
 use Rattle.bench.specs.Ring.{taken_in}
 use Rattle.bench.specs.Runs.{told, carried}
 
@@ -66,5 +66,5 @@ module _ {n : Node} {b old new : List ℕ} {a : Answer} {room : ℕ} (long : len
   unfolding taken_in
   takes = v.is ∙ ap (λ (x : ℕ). answer_of n (outcomes (state_of n) b x)) long
 
-  pub still-long : length new ≡ room
-  still-long = ap length v.content ∙ over-long (outcomes (state_of n) b (length old)).report old ∙ long
+  pub still_long : length new ≡ room
+  still_long = ap length v.content ∙ over_long (outcomes (state_of n) b (length old)).report old ∙ long

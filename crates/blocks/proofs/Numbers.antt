@@ -16,16 +16,16 @@ unfolding block_at
 block-number level b = refl
 
 -- 8 exactly where it is malformed.
-pub malformed-is_8 : (m : Meaning) → (result_of m ≡ 8) ↔ (m ≡ malformed)
-malformed-is_8 malformed = (λ e. refl, λ e. refl)
-malformed-is_8 (aside t) = (λ e. absurd (omega arith), λ e. ap result_of e)
-malformed-is_8 (shows es) = (λ e. absurd (omega arith), λ e. ap result_of e)
+pub malformed_is_8 : (m : Meaning) → (result_of m ≡ 8) ↔ (m ≡ malformed)
+malformed_is_8 malformed = (λ e. refl, λ e. refl)
+malformed_is_8 (aside t) = (λ e. absurd (omega arith), λ e. ap result_of e)
+malformed_is_8 (shows es) = (λ e. absurd (omega arith), λ e. ap result_of e)
 
 -- 24 exactly where it is set aside.
-pub aside-is_24 : (m : Meaning) → (result_of m ≡ 24) ↔ ((t : ℕ) × (m ≡ aside t))
-aside-is_24 malformed = (λ e. absurd (omega arith), λ (t, e). ap result_of e)
-aside-is_24 (aside t) = (λ e. (t, refl), λ (t, e). refl)
-aside-is_24 (shows es) = (λ e. absurd (omega arith), λ (t, e). ap result_of e)
+pub aside_is_24 : (m : Meaning) → (result_of m ≡ 24) ↔ ((t : ℕ) × (m ≡ aside t))
+aside_is_24 malformed = (λ e. absurd (omega arith), λ (t, e). ap result_of e)
+aside_is_24 (aside t) = (λ e. (t, refl), λ (t, e). refl)
+aside_is_24 (shows es) = (λ e. absurd (omega arith), λ (t, e). ap result_of e)
 
 -- The values are what the station is left with.
 pub type_left : (t : ℕ) → block_values (block (aside t)) ≡ (attributes_from (aside t)).kind ∷ []
@@ -39,13 +39,13 @@ at_place : {x y : List ℕ} (i : ℕ) → x ≡ y → get_or x i 0 ≡ get_or y 
 at_place i e = ap (λ (l : List ℕ). get_or l i 0) e
 
 -- Answers of one number with the same values are the same answer.
-pub blocks_told-apart : (x y : Block) → block_number x ≡ block_number y → block_values x ≡ block_values y → x ≡ y
-blocks_told-apart Malformed Malformed n v = refl
-blocks_told-apart Malformed (Aside t) n v = absurd (omega arith)
-blocks_told-apart Malformed (Values w0 w1 b0 b1) n v = absurd (omega arith)
-blocks_told-apart (Aside t) Malformed n v = absurd (omega arith)
-blocks_told-apart (Aside t) (Aside u) n v = ap Aside (at_place 0 v)
-blocks_told-apart (Aside t) (Values w0 w1 b0 b1) n v = absurd (omega arith)
-blocks_told-apart (Values w0 w1 b0 b1) Malformed n v = absurd (omega arith)
-blocks_told-apart (Values w0 w1 b0 b1) (Aside t) n v = absurd (omega arith)
-blocks_told-apart (Values w0 w1 b0 b1) (Values x0 x1 c0 c1) n v = rw (at_place 0 v, at_place 1 v, at_place 2 v, at_place 3 v)
+pub blocks_told_apart : (x y : Block) → block_number x ≡ block_number y → block_values x ≡ block_values y → x ≡ y
+blocks_told_apart Malformed Malformed n v = refl
+blocks_told_apart Malformed (Aside t) n v = absurd (omega arith)
+blocks_told_apart Malformed (Values w0 w1 b0 b1) n v = absurd (omega arith)
+blocks_told_apart (Aside t) Malformed n v = absurd (omega arith)
+blocks_told_apart (Aside t) (Aside u) n v = ap Aside (at_place 0 v)
+blocks_told_apart (Aside t) (Values w0 w1 b0 b1) n v = absurd (omega arith)
+blocks_told_apart (Values w0 w1 b0 b1) Malformed n v = absurd (omega arith)
+blocks_told_apart (Values w0 w1 b0 b1) (Aside t) n v = absurd (omega arith)
+blocks_told_apart (Values w0 w1 b0 b1) (Values x0 x1 c0 c1) n v = rw (at_place 0 v, at_place 1 v, at_place 2 v, at_place 3 v)

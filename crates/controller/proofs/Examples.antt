@@ -16,9 +16,9 @@ use Rattle.controller.specs.Record.{outcomes}
 use Rattle.controller.specs.Node.{state_of, started_with}
 use Rattle.controller.specs.Drill.{reports, settings_record, records}
 
-pub drill-starts : (started_with settings_record).result ≡ 0
+pub drill_starts : (started_with settings_record).result ≡ 0
 unfolding started_with settings_in head_of broken full_in fields_of in_range address_at
-drill-starts = refl
+drill_starts = refl
 
 pub drill-reports : reports (started_with settings_record).node records
     ≡ (5 ∷ 0 ∷ 16 ∷ 0 ∷ 1 ∷ 4 ∷ 0 ∷ []) ∷ (5 ∷ 0 ∷ 16 ∷ 0 ∷ 2 ∷ 0 ∷ 0 ∷ []) ∷ [] ∷ [] ∷ [] ∷ (5 ∷ 0 ∷ 16 ∷ 0 ∷ 3 ∷ 2 ∷ 0 ∷ [])
@@ -27,9 +27,9 @@ unfolding reports started_with settings_in head_of broken full_in fields_of in_r
 drill-reports = refl
 
 -- 1 before 2: no byte of a record, and a room of six.
-pub room-first : (own : ℕ) → reading own [] 6 ≡ Refused 1
+pub room_first : (own : ℕ) → reading own [] 6 ≡ Refused 1
 unfolding reading broken
-room-first own = refl
+room_first own = refl
 
 -- 02, Item 4: thirty ticks in one record, with room for as many reports. Each has its closing steps, so that the 10th, the 20th and the 30th write one.
 pub many-reports : (outcomes (state_of (started_with settings_record).node) (4 ∷ 0 ∷ 7 ∷ 0 ∷ 30 ∷ 0 ∷ []) 210).report

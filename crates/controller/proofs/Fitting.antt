@@ -11,7 +11,7 @@ use Rattle.settings.specs.declared.choice.Ticks.{Ticks}
 use Rattle.settings.specs.Ticks.{ticks_of}
 use Rattle.settings.specs.Ranges.{within, in_range}
 use Rattle.settings.specs.Kept.{SettingsKept, TicksKept}
-use Rattle.settings.proofs.Keeping.{ticks-kept}
+use Rattle.settings.proofs.Keeping.{ticks_kept}
 use Rattle.spans.specs.declared.span.Span.{Span}
 use Rattle.spans.specs.Codes.{degraded, failed, none, MS, FS, listed, higher}
 use Rattle.spans.specs.Requests.{automatic, waiting, request}
@@ -40,7 +40,7 @@ level-low c h =
 pub settings_fit : (c : Settings) → SettingsKept c → SettingsFit c
 unfolding ticks_of
 settings_fit c k =
-    let t : TicksKept (ticks_of c) = ticks-kept c k.ranges in
+    let t : TicksKept (ticks_of c) = ticks_kept c k.ranges in
     record {
       level = omega (arith, level-low c k.ranges);
       wtr = omega (arith, t.wtr);
@@ -105,8 +105,8 @@ module _ (s : State) (k : StateKept s) where
     east = span_fits ticks s.spans.east k.ticks k.east;
   }
 
-  pub pacer-fits : PacerFits s.pacer
-  pacer-fits = record {
+  pub pacer_fits : PacerFits s.pacer
+  pacer_fits = record {
     timer =
         omega
         (arith, k.pacer.timer, greater-low ticks.fast ticks.slow 10000 (omega (arith, k.ticks.fast)) (omega (arith, k.ticks.slow)));

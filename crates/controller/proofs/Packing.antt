@@ -12,7 +12,7 @@ use Rattle.settings.specs.declared.choice.Ticks.{Ticks}
 use Rattle.spans.specs.declared.span.Span.{Span}
 use Rattle.spans.specs.Records.{ticked}
 use Rattle.spans.specs.Requests.{automatic, waited, request}
-use Rattle.spans.proofs.Waiting.{waited-same}
+use Rattle.spans.proofs.Waiting.{waited_same}
 use Rattle.pacer.specs.declared.steps.Pacer.{Pacer}
 use Rattle.pacer.specs.declared.steps.Paced.{Paced}
 use Rattle.pacer.specs.Pace.{paced, changed, ticked as ticked_pacer}
@@ -35,8 +35,8 @@ pub record SettingsFit (c : Settings) : Type 0 where
   pub forget : c.forget.0 < 2 ^ 16
 
 -- What words hold fits.
-pub on-settings : (w : List ℕ) → SettingsFit (settings_on w)
-on-settings w = record {
+pub on_settings : (w : List ℕ) → SettingsFit (settings_on w)
+on_settings w = record {
   level = omega arith;
   wtr = omega arith;
   holdoff = omega arith;
@@ -46,8 +46,8 @@ on-settings w = record {
   forget = omega arith;
 }
 
-at-fits : (at : ℕ) (w : List ℕ) → SpanFits (span_at at w)
-at-fits at w = record {
+at_fits : (at : ℕ) (w : List ℕ) → SpanFits (span_at at w)
+at_fits at w = record {
   wtr = omega arith;
   holdoff = omega arith;
   age = omega arith;
@@ -56,11 +56,11 @@ at-fits at w = record {
   operator = omega arith;
 }
 
-pub on-spans : (w : List ℕ) → SpansFit (spans_on w)
-on-spans w = record { west = at-fits 8 w; east = at-fits 15 w }
+pub on_spans : (w : List ℕ) → SpansFit (spans_on w)
+on_spans w = record { west = at_fits 8 w; east = at_fits 15 w }
 
-pub on-pacer : (w : List ℕ) → PacerFits (pacer_on w)
-on-pacer w = record {
+pub on_pacer : (w : List ℕ) → PacerFits (pacer_on w)
+on_pacer w = record {
   timer = omega arith;
   sequence = omega arith;
   west = omega arith;
@@ -132,18 +132,18 @@ pacer_back c x p f = λ i. record {
 }
 
 module _ {w : List ℕ} (c : Settings) (x : Spans) (p : Pacer) (e : w ≡ own_of c x p) where
-  pub own-settings : SettingsFit c → settings_on w ≡ c
-  own-settings f = ap settings_on e ∙ settings_back c x p f
+  pub own_settings : SettingsFit c → settings_on w ≡ c
+  own_settings f = ap settings_on e ∙ settings_back c x p f
 
-  pub own-spans : SpansFit x → spans_on w ≡ x
-  own-spans f = ap spans_on e ∙ spans_back c x p f
+  pub own_spans : SpansFit x → spans_on w ≡ x
+  own_spans f = ap spans_on e ∙ spans_back c x p f
 
-  pub own-pacer : PacerFits p → pacer_on w ≡ p
-  own-pacer f = ap pacer_on e ∙ pacer_back c x p f
+  pub own_pacer : PacerFits p → pacer_on w ≡ p
+  own_pacer f = ap pacer_on e ∙ pacer_back c x p f
 
 -- A span is read from the place where its words begin.
-pub span-from : (n : ℕ) (w : List ℕ) {at : ℕ} → at ≡ cond (eqb n 0) 8 15 → span_at at w ≡ span_of n (spans_on w)
-span-from n w e = ap (λ (a : ℕ). span_at a w) e ∙ go (eqb n 0)
+pub span_from : (n : ℕ) (w : List ℕ) {at : ℕ} → at ≡ cond (eqb n 0) 8 15 → span_at at w ≡ span_of n (spans_on w)
+span_from n w e = ap (λ (a : ℕ). span_at a w) e ∙ go (eqb n 0)
   where
     go : (b : Bool) → span_at (cond b 8 15) w ≡ cond b (span_at 8 w) (span_at 15 w)
     go true = refl
@@ -153,9 +153,9 @@ span-from n w e = ap (λ (a : ℕ). span_at a w) e ∙ go (eqb n 0)
 pub below_is : {r x m : ℕ} → (r ≡ x) × (r < m) → x < m
 below_is {r} {x} {m} e = subst (λ (y : ℕ). y < m) e.0 e.1
 
-set-span : (n : ℕ) (s : Span) (c : Settings) (x : Spans) (p : Pacer) → set_span n s (own_of c x p) ≡ own_of c (with_span n s x) p
+set_span_lem : (n : ℕ) (s : Span) (c : Settings) (x : Spans) (p : Pacer) → set_span n s (own_of c x p) ≡ own_of c (with_span n s x) p
 unfolding own_of
-set-span n s c x p = go (eqb n 0)
+set_span_lem n s c x p = go (eqb n 0)
   where
     go : (b : Bool) → set_span_at (cond b 8 15) s (own_of c x p) ≡ own_of c (record { west = cond b s x.west; east = cond b x.east s }) p
     go true = refl
@@ -165,16 +165,16 @@ set_both : (a b : Span) (c : Settings) (x : Spans) (p : Pacer) → set_span 1 b 
 unfolding own_of
 set_both a b c x p = refl
 
-set-pacer : (q : Pacer) (c : Settings) (x : Spans) (p : Pacer) → set_pacer q (own_of c x p) ≡ own_of c x q
+set_pacer_lem : (q : Pacer) (c : Settings) (x : Spans) (p : Pacer) → set_pacer q (own_of c x p) ≡ own_of c x q
 unfolding own_of
-set-pacer q c x p = refl
+set_pacer_lem q c x p = refl
 
 -- No handler, no WTR step.
 pub settled-none : (t : Ticks) (x : Spans) → settled t x x ≡ x
 unfolding settled
 settled-none t x = λ i. record {
-  west = waited-same t (automatic t x.west) x.west refl i;
-  east = waited-same t (automatic t x.east) x.east refl i;
+  west = waited_same t (automatic t x.west) x.west refl i;
+  east = waited_same t (automatic t x.east) x.east refl i;
 }
 
 settled-one : (t : Ticks) (n : ℕ) (f : Span) (x : Spans) → settled t x (with_span n f x) ≡ with_span n (waited t (automatic t (span_of n x)) f) x
@@ -201,26 +201,26 @@ with_fits n v x f g = record {
 pub settled_same : {w : List ℕ} → OwnHeld w → Settled (spans_on w) w w
 settled_same {w} h = record {
   words = h.whole ∙ ap (λ (y : Spans). own_of (settings_on w) y (pacer_on w)) (sym (settled-none (ticks_on w) (spans_on w)));
-  fits = subst SpansFit (sym (settled-none (ticks_on w) (spans_on w))) (on-spans w);
+  fits = subst SpansFit (sym (settled-none (ticks_on w) (spans_on w))) (on_spans w);
 }
 
-pub settled-span : {w w' : List ℕ} → OwnHeld w → (n : ℕ) (s : Span) {before v : Span} {was : ℕ} {t : Ticks} → before ≡ span_of n (spans_on w) → t ≡ ticks_on w → was ≡ automatic t before
+pub settled_span : {w w' : List ℕ} → OwnHeld w → (n : ℕ) (s : Span) {before v : Span} {was : ℕ} {t : Ticks} → before ≡ span_of n (spans_on w) → t ≡ ticks_on w → was ≡ automatic t before
     → v ≡ waited t was s → (w' ≡ set_span n v w) × SpanFits v → Settled (with_span n s (spans_on w)) w w'
-settled-span {w} {w'} h n s {before} {v} {was} {t} eb et ew ev e =
+settled_span {w} {w'} h n s {before} {v} {was} {t} eb et ew ev e =
     let is : v ≡ waited (ticks_on w) (automatic (ticks_on w) (span_of n (spans_on w))) s =
     ev ∙ ap (λ (q : ℕ). waited t q s) (ew ∙ ap (automatic t) eb) ∙ ap (λ (q : Ticks). waited q (automatic q (span_of n (spans_on w))) s) et in
     let same : with_span n v (spans_on w) ≡ settled (ticks_on w) (spans_on w) (with_span n s (spans_on w)) =
     ap (λ (y : Span). with_span n y (spans_on w)) is ∙ sym (settled-one (ticks_on w) n s (spans_on w)) in record {
-      words = e.0 ∙ ap (set_span n v) h.whole ∙ set-span n v (settings_on w) (spans_on w) (pacer_on w) ∙ ap (λ (y : Spans). own_of (settings_on w) y (pacer_on w)) same;
-      fits = subst SpansFit same (with_fits n v (spans_on w) e.1 (on-spans w));
+      words = e.0 ∙ ap (set_span n v) h.whole ∙ set_span_lem n v (settings_on w) (spans_on w) (pacer_on w) ∙ ap (λ (y : Spans). own_of (settings_on w) y (pacer_on w)) same;
+      fits = subst SpansFit same (with_fits n v (spans_on w) e.1 (on_spans w));
     }
 
 -- A span that ticked, after its WTR step.
 abbrev ticked_on : Ticks → Span → Span
 ticked_on t s = waited t (automatic t s) (ticked t s)
 
-pub ticked-on : (T : Ticks) (x : Span) {s u v : Span} {was : ℕ} {t : Ticks} → t ≡ T → s ≡ x → u ≡ ticked t s → was ≡ automatic t s → v ≡ waited t was u → v ≡ ticked_on T x
-ticked-on T x {s} {u} {v} {was} {t} et es eu ew ev =
+pub ticked_on_lem : (T : Ticks) (x : Span) {s u v : Span} {was : ℕ} {t : Ticks} → t ≡ T → s ≡ x → u ≡ ticked t s → was ≡ automatic t s → v ≡ waited t was u → v ≡ ticked_on T x
+ticked_on_lem T x {s} {u} {v} {was} {t} et es eu ew ev =
     ev ∙ ap (λ (q : ℕ). waited t q u) ew ∙ ap (waited t (automatic t s)) eu ∙ ap (ticked_on t) es ∙ ap (λ (q : Ticks). ticked_on q x) et
 
 pub settled-tick : {w w1 w2 : List ℕ} → OwnHeld w → {west east : Span} → west ≡ ticked_on (ticks_on w) (span_at 8 w) → east ≡ ticked_on (ticks_on w) (span_at 15 w)
@@ -264,18 +264,18 @@ reported tick {w} {w'} {old} {new} d ed ew en f = record {
 -- The last step on times, spans, requests and a pacer that were read from the words.
 module _ (tick : Bool) {w : List ℕ} (h : OwnHeld w) {t : Ticks} {a b : Span} {west east : ℕ} {p : Pacer} (et : t ≡ ticks_on w) (ea : a ≡ span_at 8 w) (eb : b ≡ span_at 15 w)
     (ew : west ≡ request t a) (ee : east ≡ request t b) (ep : p ≡ pacer_on w) where
-  paced-on : paced t.fast t.slow tick west east p ≡ paced_in tick w
+  paced_on : paced t.fast t.slow tick west east p ≡ paced_in tick w
   unfolding pacing
-  paced-on =
+  paced_on =
       (λ i. paced t.fast t.slow tick (ew i) (ee i) (ep i)) ∙ (λ i. pacing t tick (record { west = ea i; east = eb i }) (pacer_on w))
       ∙ (λ i. pacing (et i) tick (spans_on w) (pacer_on w))
 
   pub reported_still : {old : List ℕ} → still tick west east p ≡ true → old ≡ over [] old → Reported tick w w old old 0
   reported_still quiet none =
-      reported tick (record { pacer = p; wrote = false }) (paced-still t.fast t.slow tick west east p quiet ∙ paced-on)
-      (h.whole ∙ ap (own_of (settings_on w) (spans_on w)) (sym ep)) none (subst PacerFits (sym ep) (on-pacer w))
+      reported tick (record { pacer = p; wrote = false }) (paced-still t.fast t.slow tick west east p quiet ∙ paced_on)
+      (h.whole ∙ ap (own_of (settings_on w) (spans_on w)) (sym ep)) none (subst PacerFits (sym ep) (on_pacer w))
 
   pub reported_paced : {w' old new : List ℕ} (d : Paced) → d ≡ paced t.fast t.slow tick west east p → (w' ≡ set_pacer d.pacer w) × PacerFits d.pacer → new ≡ over (report_of d) old
       → {reports : ℕ} → reports ≡ cond d.wrote 1 0 → Reported tick w w' old new reports
   reported_paced d ed e en number =
-      rw number (reported tick d (ed ∙ paced-on) (e.0 ∙ ap (set_pacer d.pacer) h.whole ∙ set-pacer d.pacer (settings_on w) (spans_on w) (pacer_on w)) en e.1)
+      rw number (reported tick d (ed ∙ paced_on) (e.0 ∙ ap (set_pacer d.pacer) h.whole ∙ set_pacer_lem d.pacer (settings_on w) (spans_on w) (pacer_on w)) en e.1)

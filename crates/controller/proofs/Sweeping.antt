@@ -27,15 +27,15 @@ module _ {w : List ℕ} (k : RowsKept w) (t : Ticks) (x : Spans) where
   unfolding swept
   swept_both west east e f = f ∙ rw (west, east) (ap (λ l. rows_of (purged 1 l)) (purged-rows k 0 e).1)
 
-  pub swept-west : {u : List ℕ} → down t x.west ≡ true → down t x.east ≡ false → u ≡ rows_of (purged 0 (stations_in w))
+  pub swept_west : {u : List ℕ} → down t x.west ≡ true → down t x.east ≡ false → u ≡ rows_of (purged 0 (stations_in w))
       → u ≡ rows_of (swept t x (stations_in w))
   unfolding swept
-  swept-west west east e = e ∙ rw (west, east)
+  swept_west west east e = e ∙ rw (west, east)
 
-  pub swept-east : {u : List ℕ} → down t x.west ≡ false → down t x.east ≡ true → u ≡ rows_of (purged 1 (stations_in w))
+  pub swept_east : {u : List ℕ} → down t x.west ≡ false → down t x.east ≡ true → u ≡ rows_of (purged 1 (stations_in w))
       → u ≡ rows_of (swept t x (stations_in w))
   unfolding swept
-  swept-east west east e = e ∙ rw (west, east)
+  swept_east west east e = e ∙ rw (west, east)
 
   pub swept_none : down t x.west ≡ false → down t x.east ≡ false → w ≡ rows_of (swept t x (stations_in w))
   unfolding swept

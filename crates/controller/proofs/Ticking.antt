@@ -17,9 +17,9 @@ use Rattle.controller.specs.Record.{closed, outcome_of, ticking}
 use Rattle.controller.specs.Node.{Node, Answer, settings_of, state_of, node_of, node_in, reports_in}
 use Rattle.controller.specs.Kept.{StateKept, Kept}
 use Rattle.controller.specs.Steps.{TookReading, TookTick, TookTicks}
-use Rattle.controller.proofs.Reports.{over_none, report-whole}
+use Rattle.controller.proofs.Reports.{over_none, report_whole}
 use Rattle.controller.proofs.Holding.{no_bytes, outcome_of_kept, outcome_of_choice}
-use Rattle.controller.proofs.Nodes.{settings_of_node, state_of_node, kept-node, same-node}
+use Rattle.controller.proofs.Nodes.{settings_of_node, state_of_node, kept_node, same_node}
 
 -- Whole reports, so many.
 abbrev pub Reports : ℕ → List ℕ → Type 0
@@ -39,7 +39,7 @@ pub tick-reports : (s : State) → Reports (reports_in (told s)) (told s) × (re
 unfolding outcome_of judged closed
 tick-reports s =
     let t = s.choice.ticks in
-    report-whole (pacing t true (settled t s.spans (acted t Tick s.spans)) s.pacer)
+    report_whole (pacing t true (settled t s.spans (acted t Tick s.spans)) s.pacer)
 
 -- .. and n ticks at most n.
 pub ticks-reports : (n : ℕ) (s : State) → Reports (reports_in (ticking n s).report) (ticking n s).report × (reports_in (ticking n s).report ≤ n)
@@ -53,10 +53,10 @@ ticks-reports (suc n) s =
     let number : reports_in (told s ++ p) ≡ reports_in (told s) + reports_in p = reports-number (reports_in (told s) + reports_in p) (told s ++ p) all in
     (omega (arith, all, number), omega (arith, number, low, high))
 
-pub ticking-result : (n : ℕ) (s : State) → (ticking n s).result ≡ 0
+pub ticking_result : (n : ℕ) (s : State) → (ticking n s).result ≡ 0
 unfolding ticking
-ticking-result zero s = refl
-ticking-result (suc n) s = ticking-result n (outcome_of Tick [] s).state
+ticking_result zero s = refl
+ticking_result (suc n) s = ticking_result n (outcome_of Tick [] s).state
 
 -- One tick is what a tick does.
 pub ticking-one : (block : List ℕ) (s : State) → ticking 1 s ≡ outcome_of Tick block s
@@ -64,9 +64,9 @@ unfolding ticking outcome_of judged closed
 ticking-one block s = λ i. record { result = 0; state = (outcome_of Tick block s).state; report = append-nil (told s) i }
 
 -- What is laid over a buffer leaves its length.
-pub over-long : (b old : List ℕ) → length (over b old) ≡ length old
+pub over_long : (b old : List ℕ) → length (over b old) ≡ length old
 unfolding over
-over-long b old = go (leb (length b) (length old)) refl
+over_long b old = go (leb (length b) (length old)) refl
   where
     go : (x : Bool) → leb (length b) (length old) ≡ x → length (cond x (b ++ drop (length b) old) old) ≡ length old
     go true e = length-append b (drop (length b) old) ∙ omega (arith, length-drop (length b) old, leb-true (length b) (length old) e)
@@ -97,14 +97,14 @@ module _ (n : Node) (k : Kept n) where
   abbrev next : State
   next = (outcome_of Tick [] (state_of n)).state
 
-  next-kept : StateKept next
-  next-kept = outcome_of_kept Tick [] (state_of n) tt no_bytes k.state
+  next_kept : StateKept next
+  next_kept = outcome_of_kept Tick [] (state_of n) tt no_bytes k.state
 
-  pub tick-kept : Kept (node_in n next)
-  tick-kept = kept-node (settings_of n) next k.settings (outcome_of_choice Tick [] (state_of n)) next-kept
+  pub tick_kept : Kept (node_in n next)
+  tick_kept = kept_node (settings_of n) next k.settings (outcome_of_choice Tick [] (state_of n)) next_kept
 
-  tick-shows : state_of (node_in n next) ≡ next
-  tick-shows = state_of_node (settings_of n) next k.settings (outcome_of_choice Tick [] (state_of n)) next-kept
+  tick_shows : state_of (node_in n next) ≡ next
+  tick_shows = state_of_node (settings_of n) next k.settings (outcome_of_choice Tick [] (state_of n)) next_kept
 
   tick-settings : settings_of (node_in n next) ≡ settings_of n
   tick-settings = settings_of_node (settings_of n) next k.settings
@@ -122,7 +122,7 @@ tick-behind {n} {at} {old} {block} {new} {a} k low v =
       content =
           ap (λ (x : List ℕ). take at old ++ (new ++ x)) none
           ∙ ap (λ (x : List ℕ). take at old ++ x) (append-nil new ∙ v.content ∙ ap (over (told (state_of n))) rest);
-      kept = subst (λ (x : Answer). Kept x.node) (sym v.is) (tick-kept n k);
+      kept = subst (λ (x : Answer). Kept x.node) (sym v.is) (tick_kept n k);
     }
 
 -- A loop that has begun with the node n₀, so many ticks and the buffer old, and has come to the node n, with some left, and to the buffer out.
@@ -153,7 +153,7 @@ module _ {n₀ : Node} {ticks : ℕ} {old : List ℕ} {n : Node} {reports : ℕ}
       let (more, high) = ticks-reports left (outcome_of Tick [] s).state in
       let node_is : a.node ≡ node_in n (outcome_of Tick [] s).state = ap (λ (x : Answer). x.node) k.is in
       let number_is : a.reports ≡ reports_in o = ap (λ (x : Answer). x.reports) k.is in
-      let shows : state_of a.node ≡ (outcome_of Tick [] s).state = ap state_of node_is ∙ tick-shows n g.kept in
+      let shows : state_of a.node ≡ (outcome_of Tick [] s).state = ap state_of node_is ∙ tick_shows n g.kept in
       let settings : settings_of a.node ≡ settings_of n = ap settings_of node_is ∙ tick-settings n g.kept in
       let front_long : length front ≡ at = length-take-le at out (omega (arith, g.few, g.room, g.long)) in
       let rest-long : length (drop at out) ≡ length out - at = length-drop at out in
@@ -161,7 +161,7 @@ module _ {n₀ : Node} {ticks : ℕ} {old : List ℕ} {n : Node} {reports : ℕ}
       let both : reports_in (o ++ p) ≡ reports_in o + reports_in p =
       reports-number (reports_in o + reports_in p) (o ++ p) (reports_both (reports_in o) (reports_in p) o p one more) in
       let same-long : length new ≡ length out =
-      ap length k.content ∙ length-append front (over o (drop at out)) ∙ omega (arith, front_long, rest-long, over-long o (drop at out), g.few, g.room, g.long) in
+      ap length k.content ∙ length-append front (over o (drop at out)) ∙ omega (arith, front_long, rest-long, over_long o (drop at out), g.few, g.room, g.long) in
       let grown : length front + length o ≡ 7 * (reports + a.reports) = omega arith in
       record {
         kept = k.kept;
@@ -186,17 +186,17 @@ module _ {n₀ : Node} {ticks : ℕ} {old : List ℕ} {n : Node} {reports : ℕ}
       go zero more g k = absurd (omega arith)
       go (suc left) more g {new} {a} k = subst (λ (m : ℕ). Going n₀ ticks old a.node m (reports + a.reports) new) (omega arith) (turns left g k)
 
-  pub turn-fits : {left : ℕ} {new : List ℕ} {a : Answer} → Going n₀ ticks old n left reports out → 0 < left → TookTick n (7 * reports) out new a
+  pub turn_fits : {left : ℕ} {new : List ℕ} {a : Answer} → Going n₀ ticks old n left reports out → 0 < left → TookTick n (7 * reports) out new a
       → reports + a.reports ≤ ticks
-  turn-fits g more k = omega (arith, g.few, more, ap (λ (x : Answer). x.reports) k.is, (tick-reports (state_of n)).1)
+  turn_fits g more k = omega (arith, g.few, more, ap (λ (x : Answer). x.reports) k.is, (tick-reports (state_of n)).1)
 
   -- At the end.
-  at-end : Going n₀ ticks old n 0 reports out → TookTicks n₀ ticks old out (record { node = n; result = 0; reports = reports })
+  at_end : Going n₀ ticks old n 0 reports out → TookTicks n₀ ticks old out (record { node = n; result = 0; reports = reports })
   unfolding ticking
-  at-end g = record {
+  at_end g = record {
     is = λ i. record {
-      node = (sym (same-node n g.kept) ∙ sym g.node) i;
-      result = sym (ticking-result ticks (state_of n₀)) i;
+      node = (sym (same_node n g.kept) ∙ sym g.node) i;
+      result = sym (ticking_result ticks (state_of n₀)) i;
       reports = few i;
     };
     content = sym (g.content ∙ ap (λ (x : List ℕ). take (7 * reports) out ++ x) (sym (over_none (drop (7 * reports) out))) ∙ take-append-drop (7 * reports) out);
@@ -206,4 +206,4 @@ module _ {n₀ : Node} {ticks : ℕ} {old : List ℕ} {n : Node} {reports : ℕ}
       few = omega (arith, g.number)
 
   pub done : {left : ℕ} → Going n₀ ticks old n left reports out → left ≤ 0 → TookTicks n₀ ticks old out (record { node = n; result = 0; reports = reports })
-  done g none = at-end (subst (λ (m : ℕ). Going n₀ ticks old n m reports out) (omega arith) g)
+  done g none = at_end (subst (λ (m : ℕ). Going n₀ ticks old n m reports out) (omega arith) g)

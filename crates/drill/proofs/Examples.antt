@@ -77,9 +77,9 @@ pub settings-cut : output (8 ∷ 0 ∷ 33 ∷ []) ≡ rows ("settings 2" ∷ [])
 unfolding output rows
 settings-cut = refl
 
-pub settings-kind : output (ask 2 2 ++ tick) ≡ rows ("settings 3" ∷ [])
+pub settings_kind : output (ask 2 2 ++ tick) ≡ rows ("settings 3" ∷ [])
 unfolding output rows settings_in head_of broken
-settings-kind = refl
+settings_kind = refl
 
 pub settings_range : output (settings_at 3 ++ tick) ≡ rows ("settings 4" ∷ [])
 unfolding output rows settings_in head_of broken full_in fields_of in_range address_at table_of image flat table_in places_in own_of ticks_of blank report_bytes

@@ -9,12 +9,12 @@ use Rattle.wire.specs.Head.{length_of}
 use Rattle.drill.specs.Turns.{whole}
 use Rattle.drill.specs.Input.{first_of}
 
-pub whole-first : (xs zs : List ℕ) (n : ℕ) → n ≡ length_of xs → 2 ≤ n → n ≤ 1033 → n + 2 ≤ length (take 2 xs ++ zs) → 2 ≤ length xs
+pub whole_first : (xs zs : List ℕ) (n : ℕ) → n ≡ length_of xs → 2 ≤ n → n ≤ 1033 → n + 2 ≤ length (take 2 xs ++ zs) → 2 ≤ length xs
     → first_of (take 2 xs ++ zs) ≡ whole (take (n + 2) (take 2 xs ++ zs))
 unfolding first_of
-whole-first [] zs n e low high h long = absurd (omega arith)
-whole-first (a ∷ []) zs n e low high h long = absurd (omega arith)
-whole-first (a ∷ b ∷ r) zs n e low high h long =
+whole_first [] zs n e low high h long = absurd (omega arith)
+whole_first (a ∷ []) zs n e low high h long = absurd (omega arith)
+whole_first (a ∷ b ∷ r) zs n e low high h long =
     rw (
       e,
       le-ltb (suc (length zs)) 1 (omega arith),

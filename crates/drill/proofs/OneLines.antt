@@ -45,18 +45,18 @@ joined f rest p q = record {
   plain = plain-append f (space ∷ q.front) p ((λ e. omega arith), q.plain);
 }
 
-pub line-is-one : (fs : List (List ℕ)) → AllPlain fs → OneLine (line fs)
+pub line_is_one : (fs : List (List ℕ)) → AllPlain fs → OneLine (line fs)
 unfolding line
-line-is-one [] p = record { front = []; is = refl; plain = tt }
-line-is-one (f ∷ []) p = record { front = f; is = refl; plain = p.0 }
-line-is-one (f ∷ g ∷ l) p = joined f (line (g ∷ l)) p.0 (line-is-one (g ∷ l) p.1)
+line_is_one [] p = record { front = []; is = refl; plain = tt }
+line_is_one (f ∷ []) p = record { front = f; is = refl; plain = p.0 }
+line_is_one (f ∷ g ∷ l) p = joined f (line (g ∷ l)) p.0 (line_is_one (g ∷ l) p.1)
 
 numbers-plain : (ns : List ℕ) → AllPlain (map decimal ns)
 numbers-plain [] = tt
 numbers-plain (n ∷ ns) = (plain-decimal n, numbers-plain ns)
 
 numbers-one : (ns : List ℕ) → OneLine (line (map decimal ns))
-numbers-one ns = line-is-one (map decimal ns) (numbers-plain ns)
+numbers-one ns = line_is_one (map decimal ns) (numbers-plain ns)
 
 pub record_one : (k : ℕ) (a : Answer) → OneLine (record_line k a)
 unfolding record_line
@@ -90,11 +90,11 @@ plain-settings = (
 
 pub way-one : (k : ℕ) (told : List ℕ) → OneLine (way_line k told)
 unfolding way_line
-way-one k told = line-is-one (decimal k ∷ ascii "way" ∷ map decimal told) (plain-decimal k, (plain-way, numbers-plain told))
+way-one k told = line_is_one (decimal k ∷ ascii "way" ∷ map decimal told) (plain-decimal k, (plain-way, numbers-plain told))
 
 pub settings-one : (result : ℕ) → OneLine (settings_line result)
 unfolding settings_line
-settings-one result = line-is-one (ascii "settings" ∷ decimal result ∷ []) (plain-settings, (plain-decimal result, tt))
+settings-one result = line_is_one (ascii "settings" ∷ decimal result ∷ []) (plain-settings, (plain-decimal result, tt))
 
 either : (t : Bool) (a b : List ℕ) → OneLine a → OneLine b → OneLine (cond t a b)
 either true a b p q = p

@@ -30,15 +30,15 @@ pub at_first : {n : Node} → Kept n → Passing n n 0 true
 unfolding passed
 at_first k = record { reads = []; counted = refl; small = omega arith; node_is = refl; more_is = refl; on = tt; kept = k }
 
-next-is : (start n : Node) (k : ℕ) (w : Read) (l : List Read) → k ≡ length l → n ≡ (passed start l).node
+next_is : (start n : Node) (k : ℕ) (w : Read) (l : List Read) → k ≡ length l → n ≡ (passed start l).node
     → turned (k + 1) n w ≡ passed start (w ∷ l)
 unfolding passed
-next-is start n k w l e q = rw (add-one k, e, q)
+next_is start n k w l e q = rw (add-one k, e, q)
 
 pub one_more_lem : {start n : Node} {k : ℕ} {more : Bool} {t : Turning} → Passing start n k more → k < most → more ≡ true → Taken (k + 1) n t
     → Passing start t.node (k + 1) t.more
 one_more_lem {start} {n} {k} p low h t =
-    let e = next-is start n k t.read p.reads p.counted p.node_is in
+    let e = next_is start n k t.read p.reads p.counted p.node_is in
     record {
       reads = t.read ∷ p.reads;
       counted = rw (add-one k, p.counted);

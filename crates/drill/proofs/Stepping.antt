@@ -37,15 +37,15 @@ pub question-step : (k : ℕ) (n : Node) (b body : List ℕ) {old new : List ℕ
 unfolding stepped
 question-step k n b body h e kept p = rw (eq-eqb (kind_of b) 40 h, ← e) (spoken kept p)
 
-other-kind : (k : ℕ) (n : Node) (b : List ℕ) → (kind_of b ≡ 40 → ⊥)
+other_kind : (k : ℕ) (n : Node) (b : List ℕ) → (kind_of b ≡ 40 → ⊥)
     → stepped k n b ≡ goes_on (answer_of n (outcomes (state_of n) b room)).node (record_line k (answer_of n (outcomes (state_of n) b room)))
 unfolding stepped
-other-kind k n b h = rw (ne_eqb (kind_of b) 40 h)
+other_kind k n b h = rw (ne_eqb (kind_of b) 40 h)
 
 pub record_step : (k : ℕ) (n : Node) (b : List ℕ) {a : Answer} {old new : List ℕ} {r : ℕ} → (kind_of b ≡ 40 → ⊥)
     → a ≡ answer_of n (outcomes (state_of n) b room) → Kept a.node → Lined (record_line k a) old new r → Turned (stepped k n b) old new (turn a.node r true)
 record_step k n b {a} {old} {new} {r} h e kept p =
-    rw (other-kind k n b h)
+    rw (other_kind k n b h)
     (subst (λ (x : Answer). Turned (goes_on x.node (record_line k x)) old new (turn a.node r true)) e (spoken kept p))
 
 -- Settings taken, and refused.
@@ -81,10 +81,10 @@ module _ (k : ℕ) (n : Node) (buf : List ℕ) where
   unfolding turned
   cut-turn e kept p = rw e (spoken kept p)
 
-  pub whole-turn : {read : Input} (end : ℕ) {old new : List ℕ} {t : Turning} → read ≡ Whole end → Turned (stepped k n (take end buf)) old new t
+  pub whole_turn : {read : Input} (end : ℕ) {old new : List ℕ} {t : Turning} → read ≡ Whole end → Turned (stepped k n (take end buf)) old new t
       → Turned (turned k n (read_as read buf)) old new t
   unfolding turned
-  whole-turn end e p = rw e p
+  whole_turn end e p = rw e p
 
 -- A whole record lies in its buffer.
 pub front_length : {read : Input} (end : ℕ) (buf : List ℕ) → read ≡ Whole end → Within read buf → end ≡ length (take end buf)
@@ -103,9 +103,9 @@ begun-cut : begun cut ≡ begun_with (started_with [])
 unfolding begun settings_in head_of broken
 begun-cut = refl
 
-begun-whole : (b : List ℕ) → begun (whole b) ≡ begun_with (started_with b)
+begun_whole : (b : List ℕ) → begun (whole b) ≡ begun_with (started_with b)
 unfolding begun
-begun-whole b = refl
+begun_whole b = refl
 
 started-by : (b : List ℕ) (w : Read) {s : Started} {old new : List ℕ} {t : Turn} → begun w ≡ begun_with (started_with b) → Begun b s
     → StartTold s.result old new t → Turned (begun w) old new (turn s.node t.length t.more)
@@ -121,13 +121,13 @@ module _ (buf : List ℕ) {read : Input} {s : Started} {old new : List ℕ} {t :
       → Turned (begun (read_as read buf)) old new (turn s.node t.length t.more)
   cut-start e q p = rw e (started-by [] cut begun-cut q p)
 
-  pub whole-start : (end : ℕ) → read ≡ Whole end → Begun (take end buf) s → StartTold s.result old new t
+  pub whole_start : (end : ℕ) → read ≡ Whole end → Begun (take end buf) s → StartTold s.result old new t
       → Turned (begun (read_as read buf)) old new (turn s.node t.length t.more)
-  whole-start end e q p = rw e (started-by (take end buf) (whole (take end buf)) (begun-whole (take end buf)) q p)
+  whole_start end e q p = rw e (started-by (take end buf) (whole (take end buf)) (begun_whole (take end buf)) q p)
 
 -- What is handed on to be written is the line of the step, and all of it.
-pub front-is-line : {s : Step} {old new : List ℕ} {t : Turning} → length old ≡ 147 → Turned s old new t → take t.length new ≡ s.line
-front-is-line {s} {old} h p =
+pub front_is_line : {s : Step} {old new : List ℕ} {t : Turning} → length old ≡ 147 → Turned s old new t → take t.length new ≡ s.line
+front_is_line {s} {old} h p =
     let room : 0 + length s.line ≤ length old = rw h (omega (arith, p.room)) in
     rw (p.is, p.content, sets-eq s.line old 0 room)
     (take_at s.line (drop (0 + length s.line) old) (length s.line) refl)

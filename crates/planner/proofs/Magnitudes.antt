@@ -47,5 +47,5 @@ module _ {x : ℤ} (f : SFits w32 x) where
     pub negated_is : to_z w64 (of_z w64 (pos 0 -ℤ widened x)) ≡ pos (nat_abs x)
     negated_is = to_z-of_z w64 _ negated_fits ∙ negated
 
-  pub plain-is : lt_z (widened x) (pos 0) ≡ false → widened x ≡ pos (nat_abs x)
-  plain-is h = widened_is ∙ from_zero x (rw widened_is at h)
+  pub plain_is : lt_z (widened x) (pos 0) ≡ false → widened x ≡ pos (nat_abs x)
+  plain_is h = widened_is ∙ from_zero x (rw widened_is at h)

@@ -18,9 +18,9 @@ module _ (t : Ticks) (was : ℕ) (s : Span) where
       go false true = refl
       go false false = refl
 
-  pub waited-same : automatic t s ≡ was → waited t was s ≡ s
+  pub waited_same : automatic t s ≡ was → waited t was s ≡ s
   unfolding waited
-  waited-same same = subst (λ (w : ℕ). waited t w s ≡ s) same (go (eqb (automatic t s) 0))
+  waited_same same = subst (λ (w : ℕ). waited t w s ≡ s) same (go (eqb (automatic t s) 0))
     where
       go : (b : Bool) → cond b (cond b s (with_wtr 0 s)) (cond b (with_wtr t.wtr s) s) ≡ s
       go true = refl

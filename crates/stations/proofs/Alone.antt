@@ -7,8 +7,8 @@ use Rattle.stations.specs.Kept.{Apart}
 use Rattle.stations.specs.Steps.{rank_of, removed_at, Spared, Sole}
 use Rattle.stations.specs.Table.{Each, blank}
 use Rattle.stations.proofs.Ranks.{each_at}
-use Rattle.stations.proofs.Sifting.{sifted-same, displaced-length, losing-address}
-use Rattle.stations.proofs.Renewing.{own-not-other}
+use Rattle.stations.proofs.Sifting.{sifted_same, displaced-length, losing-address}
+use Rattle.stations.proofs.Renewing.{own_not_other}
 
 -- Who is spared: no other at the report's hop.
 pub spared_own : (p : Report) (s : Station) → other_at p s ≡ false → Spared p s
@@ -28,13 +28,13 @@ below_next p l i below here j h = go (eqb j i) refl
     go true z = let same : j ≡ i = eqb-true j i z in rw same here
     go false z = below j (omega (arith, eqb-false j i z))
 
-apart-at : (r : ℕ) (l : List Station) (i j : ℕ) → Apart r l → i < j → j < length l → hop r (get_or l j blank) ≡ hop r (get_or l i blank)
+apart_at : (r : ℕ) (l : List Station) (i j : ℕ) → Apart r l → i < j → j < length l → hop r (get_or l j blank) ≡ hop r (get_or l i blank)
     → hop r (get_or l i blank) ≡ 0
 unfolding Apart
-apart-at r [] i j a lt h e = absurd (omega arith)
-apart-at r (s ∷ l) i zero a lt h e = absurd (omega arith)
-apart-at r (s ∷ l) zero (suc j) a lt h e = each_at (λ (x : Station). hop r x ≡ hop r s → hop r s ≡ 0) l j blank a.0 (omega arith) e
-apart-at r (s ∷ l) (suc i) (suc j) a lt h e = apart-at r l i j a.1 (omega arith) (omega arith) e
+apart_at r [] i j a lt h e = absurd (omega arith)
+apart_at r (s ∷ l) i zero a lt h e = absurd (omega arith)
+apart_at r (s ∷ l) zero (suc j) a lt h e = each_at (λ (x : Station). hop r x ≡ hop r s → hop r s ≡ 0) l j blank a.0 (omega arith) e
+apart_at r (s ∷ l) (suc i) (suc j) a lt h e = apart_at r l i j a.1 (omega arith) (omega arith) e
 
 -- One place alone: the first at the report's hop, or none.
 pub sole_here : (p : Report) (l : List Station) (i : ℕ) → Apart p.ringlet l → (p.hop ≡ 0 → ⊥) → Below p l i
@@ -45,7 +45,7 @@ sole_here p l i apart some below is j inside other = go (ltb j i) refl
     go true z = below j (ltb-true j i z)
     go false z =
         spared_away p (get_or l j blank)
-        (λ e. some (sym is ∙ apart-at p.ringlet l i j apart (omega (arith, other, ltb-false j i z)) inside (e ∙ sym is)))
+        (λ e. some (sym is ∙ apart_at p.ringlet l i j apart (omega (arith, other, ltb-false j i z)) inside (e ∙ sym is)))
 
 pub sole_past : (p : Report) (l : List Station) (i : ℕ) → length l ≤ i → Below p l i → Sole p i l
 sole_past p l i past below j inside other = below j (omega arith)
@@ -57,19 +57,19 @@ sole_set p o at s l sole there own i inside other = go (eqb i at) refl
     go : (b : Bool) → eqb i at ≡ b → Spared p (get_or (set l at s) i blank)
     go true z =
         let same : i ≡ at = eqb-true i at z in
-        rw (same, get_or-set_same l at s blank there) (spared_own p s (own-not-other p s own))
+        rw (same, get_or-set_same l at s blank there) (spared_own p s (own_not_other p s own))
     go false z = rw (get_or-set_other l at i s blank (eqb-false i at z)) (sole i (rw (length-set l at s) at inside) other)
 
-each-by : (P : Station → Type 0) (l : List Station) → ((i : ℕ) → i < length l → P (get_or l i blank)) → Each P l
+each_by : (P : Station → Type 0) (l : List Station) → ((i : ℕ) → i < length l → P (get_or l i blank)) → Each P l
 unfolding Each
-each-by P [] h = tt
-each-by P (s ∷ l) h = (h 0 (omega arith), each-by P l (λ i q. h (suc i) (omega arith)))
+each_by P [] h = tt
+each_by P (s ∷ l) h = (h 0 (omega arith), each_by P l (λ i q. h (suc i) (omega arith)))
 
 -- What becomes of the list.
 module _ (p : Report) where
   displaced_spared : (l : List Station) → ((i : ℕ) → i < length l → Spared p (get_or l i blank)) → displaced p l ≡ l
   unfolding displaced
-  displaced_spared l h = sifted-same (undisplaced p) (losing p) l (each-by (Spared p) l h)
+  displaced_spared l h = sifted_same (undisplaced p) (losing p) l (each_by (Spared p) l h)
 
   -- Nobody is there ..
   pub sole_none : (o : ℕ) (l : List Station) → Sole p o l → length l ≤ o → displaced p l ≡ l

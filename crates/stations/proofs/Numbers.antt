@@ -14,8 +14,8 @@ found_number_lem a l = go (found a l) refl
     go Nothing e = rw (found_none a l e).there
 
 -- 3 exactly when no station has the address.
-pub not-found-is_3 : (a : ℕ) (l : List Station) → (found_number (found a l) ≡ 3) ↔ (present a l ≡ false)
-not-found-is_3 a l = rw (found_number_lem a l) (go (present a l))
+pub not-found_is_3 : (a : ℕ) (l : List Station) → (found_number (found a l) ≡ 3) ↔ (present a l ≡ false)
+not-found_is_3 a l = rw (found_number_lem a l) (go (present a l))
   where
     go : (b : Bool) → (cond {A = ℕ} b 0 3 ≡ 3) ↔ (b ≡ false)
     go true = (λ e. absurd (omega arith), λ e. absurd (true≢false e))
@@ -30,8 +30,8 @@ found-values a l i = go (found a l) refl
     go Nothing e v = let h : ◌≡◌ {A = ℕ} 0 1 = ap length v in absurd (omega arith)
 
 -- Answers of one number with the same values are the same answer.
-pub founds_told-apart : (x y : Found) → found_number x ≡ found_number y → found_values x ≡ found_values y → x ≡ y
-founds_told-apart (At i) (At j) n v = ap At (ap (λ (l : List ℕ). get_or l 0 0) v)
-founds_told-apart (At i) Nothing n v = absurd (omega arith)
-founds_told-apart Nothing (At j) n v = absurd (omega arith)
-founds_told-apart Nothing Nothing n v = refl
+pub founds_told_apart : (x y : Found) → found_number x ≡ found_number y → found_values x ≡ found_values y → x ≡ y
+founds_told_apart (At i) (At j) n v = ap At (ap (λ (l : List ℕ). get_or l 0 0) v)
+founds_told_apart (At i) Nothing n v = absurd (omega arith)
+founds_told_apart Nothing (At j) n v = absurd (omega arith)
+founds_told_apart Nothing Nothing n v = refl

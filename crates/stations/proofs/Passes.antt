@@ -7,7 +7,7 @@ use Rattle.stations.specs.Station.{Station}
 use Rattle.stations.specs.Stations.{capacity, sifted}
 use Rattle.stations.specs.Table.{Table, TableKept, blank, live, table_of}
 use Rattle.stations.proofs.Sifting.{sifted-append}
-use Rattle.stations.proofs.Tables.{live-long, places_are, places-long, place_is, table_is}
+use Rattle.stations.proofs.Tables.{live_long, places_are, places_long, place_is, table_is}
 
 module _ (k : Station → Bool) (m : Station → Station) where
   abbrev pub passed : List Station → List Station → ℕ → ℕ → List Station
@@ -94,11 +94,11 @@ passed-all k m l g j i at e few =
     at.is ∙ rw (e, take-length, drop-append_seam, append_assoc, replicate-append-replicate, n)
 
 -- The pass over a table that is kept: its end, and its turns.
-pub pass-end : {t : Table} (k : Station → Bool) (m : Station → Station) (g : List Station) (j i : ℕ) → TableKept t
+pub pass_end : {t : Table} (k : Station → Bool) (m : Station → Station) (g : List Station) (j i : ℕ) → TableKept t
     → Pass k m (live t) t.places g j i → t.count ≤ i → ◌≡◌ {A = Table} (record { places = g; count = j }) (table_of (sifted k m (live t)))
-pass-end {t} k m g j i kept at e =
+pass_end {t} k m g j i kept at e =
     let l : List Station = live t in
-    let ll : length l ≡ t.count = live-long kept in
+    let ll : length l ≡ t.count = live_long kept in
     let here : i ≡ length l = omega (arith, at.high) in
     let at' : Pass k m l (l ++ replicate (capacity - length l) blank) g j i =
     subst (λ (q : List Station). Pass k m l q g j i) (places_are kept) at in
@@ -109,19 +109,19 @@ module _ (t : Table) (k : Station → Bool) (m : Station → Station) (g : List 
   pub turn_dropped : k (get_or g i d) ≡ false → Pass k m (live t) t.places (set g i b) j (i + 1)
   turn_dropped h =
       rw empty
-      (pass_dropped k m (live t) t.places g j i d at (omega (arith, live-long kept)) (omega (arith, places-long kept, kept.few))
+      (pass_dropped k m (live t) t.places g j i d at (omega (arith, live_long kept)) (omega (arith, places_long kept, kept.few))
       (place_is t i d inside) h)
 
   -- The place is cleared, and then the station stored where it goes.
-  pub turn-kept : k (get_or g i d) ≡ true → Pass k m (live t) t.places (set (set g i b) j (m (get_or g i d))) (j + 1) (i + 1)
-  turn-kept h =
+  pub turn_kept : k (get_or g i d) ≡ true → Pass k m (live t) t.places (set (set g i b) j (m (get_or g i d))) (j + 1) (i + 1)
+  turn_kept h =
       rw empty
-      (pass_kept k m (live t) t.places g j i d at (omega (arith, live-long kept)) (omega (arith, places-long kept, kept.few))
+      (pass_kept k m (live t) t.places g j i d at (omega (arith, live_long kept)) (omega (arith, places_long kept, kept.few))
       (place_is t i d inside) h)
 
   -- The station goes to a lower place, and then its own is cleared.
   pub turn_moved : k (get_or g i d) ≡ true → (j ≡ i → ⊥) → Pass k m (live t) t.places (set (set g j (m (get_or g i d))) i b) (j + 1) (i + 1)
-  turn_moved h e = rw (set_comm g j i (m (get_or g i d)) b e) (turn-kept h)
+  turn_moved h e = rw (set_comm g j i (m (get_or g i d)) b e) (turn_kept h)
 
 -- Nothing has left yet: the station is changed where it stands.
 pub turn_stayed : (t : Table) (k : Station → Bool) (m : Station → Station) (g : List Station) (j i : ℕ) (d : Station) → TableKept t
@@ -130,4 +130,4 @@ pub turn_stayed : (t : Table) (k : Station → Bool) (m : Station → Station) (
 turn_stayed t k m g j i d kept at inside h e =
     subst (λ (q : List Station). Pass k m (live t) t.places q (j + 1) (i + 1))
     (ap (λ (n : ℕ). set (set g i blank) n (m (get_or g i d))) e ∙ set-set g i blank (m (get_or g i d)))
-    (turn-kept t k m g j i d blank kept at inside refl h)
+    (turn_kept t k m g j i d blank kept at inside refl h)

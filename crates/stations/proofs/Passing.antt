@@ -4,10 +4,10 @@ use Rattle.stations.specs.Station.{Station, older, with_hop}
 use Rattle.stations.specs.Stations.{sifted}
 use Rattle.stations.specs.Table.{blank}
 use Rattle.stations.specs.Rows.{word0, word1, word2, station_in, put_in, image, table_in, stations_in, rows_of, InRange, RowsHeld, older_at, moved_older, with_hops_in, moved_hop}
-use Rattle.stations.proofs.Tables.{places-long, place_is}
-use Rattle.stations.proofs.Passes.{Pass, pass_none, pass-end, read, turn_dropped, turn-kept, turn_moved, turn_stayed}
-use Rattle.stations.proofs.Words.{rows, rows0, rows1, rows2, rows-put, rows_clear, rows-older, older_word, hops_word, rows-read}
-use Rattle.stations.proofs.Reading.{count-is, count_long, ranged_any}
+use Rattle.stations.proofs.Tables.{places_long, place_is}
+use Rattle.stations.proofs.Passes.{Pass, pass_none, pass_end, read, turn_dropped, turn_kept, turn_moved, turn_stayed}
+use Rattle.stations.proofs.Words.{rows, rows0, rows1, rows2, rows-put, rows_clear, rows-older, older_word, hops_word, rows_read}
+use Rattle.stations.proofs.Reading.{count_is, count_long, ranged_any}
 
 module _ (k : Station → Bool) (m : Station → Station) where
   pub record Passing (w₀ w : List ℕ) (j i : ℕ) : Type 0 where
@@ -24,25 +24,25 @@ module _ (k : Station → Bool) (m : Station → Station) where
       → w' ≡ rows_of (sifted k m (stations_in w₀))
   unfolding image
   passing_end {w₀} {w} {w'} {j} {i} kept at past e =
-      e ∙ ap (λ (q : List ℕ). set q 0 j) at.held ∙ ap image (pass-end k m at.places j i kept.table at.pass (omega (arith, count-is kept)))
+      e ∙ ap (λ (q : List ℕ). set q 0 j) at.held ∙ ap image (pass_end k m at.places j i kept.table at.pass (omega (arith, count_is kept)))
 
 -- A turn of the pass, at place i.
 module _ {k : Station → Bool} {m : Station → Station} {w₀ w : List ℕ} {j i : ℕ} (kept : RowsHeld w₀) (at : Passing k m w₀ w j i)
     (inside : i < get_or w₀ 0 0) where
   within : i < (table_in w₀).count
-  within = omega (arith, count-is kept)
+  within = omega (arith, count_is kept)
 
   -- The place has not been passed: the station is as it was.
   place_same : get_or at.places i blank ≡ get_or (stations_in w₀) i blank
   place_same =
       read k m (stations_in w₀) (table_in w₀).places at.places j i blank at.pass (omega (arith, count_long kept))
-      (omega (arith, places-long kept.table, kept.table.few, within)) (place_is (table_in w₀) i blank within)
+      (omega (arith, places_long kept.table, kept.table.few, within)) (place_is (table_in w₀) i blank within)
 
   pub passing_ranged : InRange (get_or at.places i blank)
   passing_ranged = rw place_same (ranged_any (stations_in w₀) i kept.ranges)
 
   pub passing_read : station_in w i ≡ get_or at.places i blank
-  passing_read = rows-read at.places (table_in w₀).count i at.held passing_ranged
+  passing_read = rows_read at.places (table_in w₀).count i at.held passing_ranged
 
   pub passing_dropped : {w' : List ℕ} → k (station_in w i) ≡ false → w' ≡ put_in w i 0 0 0 → Passing k m w₀ w' j (i + 1)
   passing_dropped h e = record {
@@ -57,7 +57,7 @@ module _ {k : Station → Bool} {m : Station → Station} {w₀ w : List ℕ} {j
   passing_kept s h is e = record {
     places = set (set at.places i blank) j s;
     held = e ∙ rw (at.held, rows_clear at.places (table_in w₀).count i) (rows-put (set at.places i blank) (table_in w₀).count j s);
-    pass = rw (is, passing_read) (turn-kept (table_in w₀) k m at.places j i blank blank kept.table at.pass within refl (rw passing_read at h));
+    pass = rw (is, passing_read) (turn_kept (table_in w₀) k m at.places j i blank blank kept.table at.pass within refl (rw passing_read at h));
   }
 
 -- A turn of the pass over ages.

@@ -76,10 +76,10 @@ unfoldable slots : List Station → List ℕ
 slots [] = []
 slots (s ∷ l) = slot s ∷ slots l
 
-slots-long : (l : List Station) → length (slots l) ≡ length l
+slots_long : (l : List Station) → length (slots l) ≡ length l
 unfolding slots
-slots-long [] = refl
-slots-long (s ∷ l) = rw (slots-long l)
+slots_long [] = refl
+slots_long (s ∷ l) = rw (slots_long l)
 
 slots-all : (P : Station → Type 0) (Q : ℕ → Type 0) → ((s : Station) → P s → Q (slot s)) → (l : List Station) → Each P l → All Q (slots l)
 unfolding All Each slots
@@ -150,7 +150,7 @@ module _ (l : List Station) (apart : (ringlet : ℕ) → Apart ringlet l) (e : E
   -- Stations with a hop from 1 to 63 on one of two ringlets, no hop shared, are at most 126 ..
   pub at-most_126 : length l ≤ 126
   at-most_126 =
-      omega (arith, slots-long l, at_most (farthest + farthest) (slots l) (slots_once l apart e) (slots-all Hopped (UpTo (farthest + farthest)) slot_in l e))
+      omega (arith, slots_long l, at_most (farthest + farthest) (slots l) (slots_once l apart e) (slots-all Hopped (UpTo (farthest + farthest)) slot_in l e))
 
   -- .. and with one (ringlet, hop) slot free at most 125.
   pub at-most_125 : (q h : ℕ) → 1 ≤ h → h ≤ farthest → Each (λ (s : Station). hop q s ≡ h → ⊥) l → length l ≤ 125
@@ -164,4 +164,4 @@ module _ (l : List Station) (apart : (ringlet : ℕ) → Apart ringlet l) (e : E
       (each_both Hopped (λ (s : Station). hop q s ≡ h → ⊥) (λ (s : Station). Hopped s × (hop q s ≡ h → ⊥)) (λ s k away. (k, away)) l e free) in
       let few : suc (length (slots l)) ≤ farthest + farthest =
       at_most (farthest + farthest) (f ∷ slots l) (others, slots_once l apart e) (in_range_lem, slots-all Hopped (UpTo (farthest + farthest)) slot_in l e) in
-      omega (arith, slots-long l)
+      omega (arith, slots_long l)

@@ -5,7 +5,7 @@ use Rattle.stations.specs.Station.{Station}
 use Rattle.stations.specs.Stations.{capacity, sifted}
 use Rattle.stations.specs.Table.{Table, blank, table_of}
 use Rattle.stations.specs.Rows.{image, table_in, stations_in, rows_of, RowsHeld}
-use Rattle.stations.proofs.Tables.{live-long, places_are, table_is}
+use Rattle.stations.proofs.Tables.{live_long, places_are, table_is}
 use Rattle.stations.proofs.Passes.{passed}
 use Rattle.stations.proofs.Passing.{Passing}
 use Rattle.stations.proofs.Words.{rows}
@@ -34,15 +34,15 @@ module _ {w₀ : List ℕ} (kept : RowsHeld w₀) (k : Station → Bool) (m : St
         ∙ ap (λ (q : List Station). first ++ q) (drop-append-le i l blanks inside)
         ∙ sym (append_assoc first (drop i l) blanks)
 
-    table-front : ◌≡◌ {A = Table} (record { places = passed k m l (table_in w₀).places i i; count = (table_in w₀).count }) (table_of front)
-    table-front =
-        table_is front (passed k m l (table_in w₀).places i i) (table_in w₀).count (long ∙ live-long kept.table)
-        (places_is ∙ ap (λ (n : ℕ). front ++ replicate (capacity - n) blank) (live-long kept.table))
+    table_front : ◌≡◌ {A = Table} (record { places = passed k m l (table_in w₀).places i i; count = (table_in w₀).count }) (table_of front)
+    table_front =
+        table_is front (passed k m l (table_in w₀).places i i) (table_in w₀).count (long ∙ live_long kept.table)
+        (places_is ∙ ap (λ (n : ℕ). front ++ replicate (capacity - n) blank) (live_long kept.table))
 
     pub goes_on_lem : {w : List ℕ} → w ≡ rows_of front → Passing k m w₀ w i i
     goes_on_lem e = record {
       places = passed k m l (table_in w₀).places i i;
-      held = e ∙ ap image (sym table-front);
+      held = e ∙ ap image (sym table_front);
       pass = record { low = omega arith; high = inside; kept = all; is = refl };
     }
 
@@ -50,5 +50,5 @@ module _ {w₀ : List ℕ} (kept : RowsHeld w₀) (k : Station → Bool) (m : St
   stayed at = (
     at.pass.high,
     at.pass.kept,
-    at.held ∙ ap (λ (g : List Station). rows g (table_in w₀).count) at.pass.is ∙ ap image (table-front at.pass.high at.pass.kept),
+    at.held ∙ ap (λ (g : List Station). rows g (table_in w₀).count) at.pass.is ∙ ap image (table_front at.pass.high at.pass.kept),
   )

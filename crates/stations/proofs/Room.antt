@@ -9,7 +9,7 @@ use Rattle.stations.specs.Table.{Each}
 use Rattle.stations.specs.Kept.{Apart, ReportKept}
 use Rattle.stations.proofs.Lists.{each_both}
 use Rattle.stations.proofs.Hops.{hop-set, near-set}
-use Rattle.stations.proofs.Sifting.{sifted-each, sifted-all, sifted-apart, losing_lowers}
+use Rattle.stations.proofs.Sifting.{sifted_each, sifted-all, sifted_apart, losing_lowers}
 use Rattle.stations.proofs.Inserting.{Nobody, displaced_nobody}
 use Rattle.stations.proofs.Pigeonhole.{Hopped, at-most_125}
 
@@ -18,8 +18,8 @@ pub hop_range : (h : ℕ) → is_hop h ≡ true → (1 ≤ h) × (h ≤ farthest
 hop_range h e = let (some, low) = both (ltb 0 h) (leb h farthest) e in (ltb-true 0 h some, leb-true h farthest low)
 
 -- A report that was read has one, so it is not refused.
-pub kept-hop : {own : ℕ} {p : Report} → ReportKept own p → is_hop p.hop ≡ true
-kept-hop {own} {p} k = rw (lt-ltb 0 p.hop k.heard, le-leb p.hop farthest k.hop)
+pub kept_hop : {own : ℕ} {p : Report} → ReportKept own p → is_hop p.hop ≡ true
+kept_hop {own} {p} k = rw (lt-ltb 0 p.hop k.heard, le-leb p.hop farthest k.hop)
 
 pub any_placed : (p : Report) (l : List Station) → is_hop p.hop ≡ true → placed_any p l ≡ placed p l
 unfolding placed_any
@@ -56,8 +56,8 @@ unfolding displaced
 always_a_place p l some low apart e nobody =
     omega (
       arith,
-      at-most_125 (displaced p l) (λ r. sifted-apart (undisplaced p) (losing p) r (losing_lowers p r) l (apart r))
-          (sifted-each (undisplaced p) (losing p) Hopped Hopped (losing_hopped p) l e) p.ringlet p.hop some low
+      at-most_125 (displaced p l) (λ r. sifted_apart (undisplaced p) (losing p) r (losing_lowers p r) l (apart r))
+          (sifted_each (undisplaced p) (losing p) Hopped Hopped (losing_hopped p) l e) p.ringlet p.hop some low
           (each_both (Free p) (λ (x : Station). x.address ≡ p.address → ⊥) (λ (x : Station). hop p.ringlet x ≡ p.hop → ⊥)
           (λ x free away at. away (free at)) (displaced p l) (displaced_free p some l) (displaced_nobody p p.address l nobody)),
     )

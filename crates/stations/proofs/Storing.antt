@@ -9,16 +9,16 @@ use Rattle.stations.specs.Table.{Each, At, Nothing, blank, found}
 use Rattle.stations.specs.Rows.{word0, word1, word2, station_in, put_in, hops_at, with_hop_in, image, table_in, stations_in, rows_of, InRange, Near, RowsHeld, RowsKept, left, left_by}
 use Rattle.stations.proofs.Lists.{chosen, each_both}
 use Rattle.stations.proofs.Hops.{again-address}
-use Rattle.stations.proofs.Sifting.{sifted-each, displaced-ascending, displaced-length}
-use Rattle.stations.proofs.Renewing.{renewed-all, renewed-ascending, renewed-length, displaced-renewed}
+use Rattle.stations.proofs.Sifting.{sifted_each, displaced_ascending, displaced-length}
+use Rattle.stations.proofs.Renewing.{renewed-all, renewed_ascending, renewed-length, displaced-renewed}
 use Rattle.stations.proofs.Inserting.{absent_nobody}
 use Rattle.stations.proofs.Pigeonhole.{Hopped}
 use Rattle.stations.proofs.Room.{hop_range, always_a_place}
-use Rattle.stations.proofs.Tables.{live-long}
+use Rattle.stations.proofs.Tables.{live_long}
 use Rattle.stations.proofs.Ranks.{each_at, rank-low, insert_is}
-use Rattle.stations.proofs.Places.{found_stands, found_none, set-renewed, set-table}
+use Rattle.stations.proofs.Places.{found_stands, found_none, set-renewed, set_table}
 use Rattle.stations.proofs.Words.{rows-put, rows-hops, rows-held, stations_of}
-use Rattle.stations.proofs.Reading.{count-is, count_long, count-few, read_is, read_live}
+use Rattle.stations.proofs.Reading.{count_is, count_long, count_few, read_is, read_live}
 use Rattle.stations.proofs.Alone.{Below, below_next, spared_own, spared_away, sole_here, sole_set, sole_none, sole_spared, sole_stays, sole_leaves, rank_same, other_stays}
 
 -- The fields of a report that are stored fit their bits.
@@ -96,7 +96,7 @@ tell_both p e = rw (e.0, e.1)
 
 module _ {w : List ℕ} (kept : RowsHeld w) where
   few : length (stations_in w) ≤ capacity
-  few = omega (arith, count_long kept, count-few kept)
+  few = omega (arith, count_long kept, count_few kept)
 
   pub rows_whole : w ≡ rows_of (stations_in w)
   rows_whole = kept.whole ∙ ap image kept.table.whole
@@ -106,7 +106,7 @@ module _ {w : List ℕ} (kept : RowsHeld w) where
   store_at i s inside e =
       e ∙ ap (λ (q : List ℕ). put_in q i (word0 s) (word1 s) (word2 s)) kept.whole
       ∙ rows-put (table_in w).places (table_in w).count i s
-      ∙ ap image (set-table i s kept.table (omega (arith, live-long kept.table)))
+      ∙ ap image (set_table i s kept.table (omega (arith, live_long kept.table)))
 
   pub stored_is : (i : ℕ) → i < length (stations_in w) → station_in w i ≡ get_or (stations_in w) i blank
   stored_is i inside = read_live kept i (omega (arith, count_long kept))
@@ -119,7 +119,7 @@ module _ {w : List ℕ} (kept : RowsHeld w) where
       rw same (each_at InRange (stations_in w) i blank kept.ranges (omega (arith, count_long kept))) in
       ap (hops_at i h0 h1) kept.whole
       ∙ rows-hops (table_in w).places (table_in w).count i h0 h1 ranged
-      ∙ ap image (set-table i (with_hops h0 h1 (get_or (table_in w).places i blank)) kept.table (omega (arith, count-is kept)))
+      ∙ ap image (set_table i (with_hops h0 h1 (get_or (table_in w).places i blank)) kept.table (omega (arith, count_is kept)))
       ∙ ap (λ (s : Station). rows_of (set (stations_in w) i (with_hops h0 h1 s))) same
 
   clear_store : (ringlet i : ℕ) → i < get_or w 0 0 → with_hop_in ringlet i w ≡ rows_of (set (stations_in w) i (with_hop ringlet 0 (get_or (stations_in w) i blank)))
@@ -172,8 +172,8 @@ module _ {w : List ℕ} (kept : RowsHeld w) where
               e
               ∙ ap rows_of (sole_leaves p o (stations_in w) sole within ((other_stays p s other).0 ∙ ap (unpurged p.ringlet) (sym read) ∙ sym stays ∙ leaves))
 
-          pub displaced-own : b ≡ false → w ≡ rows_of (displaced p (stations_in w))
-          displaced-own t =
+          pub displaced_own : b ≡ false → w ≡ rows_of (displaced p (stations_in w))
+          displaced_own t =
               let s : Station = get_or (stations_in w) o blank in
               let own : other_at p s ≡ false = ap (other_at p) (sym read) ∙ sym is ∙ t in
               rows_whole ∙ ap rows_of (sym (sole_spared p o (stations_in w) sole (spared_own p s own)))
@@ -185,22 +185,22 @@ module _ {w : List ℕ} (kept : RowsHeld w) where
     unfolding displaced
     displaced-rows e =
         let each : Each InRange (displaced p (stations_in w)) =
-        sifted-each (undisplaced p) (losing p) InRange InRange (λ s r h. losing_ranged p s r) (stations_in w) kept.ranges in
+        sifted_each (undisplaced p) (losing p) InRange InRange (λ s r h. losing_ranged p s r) (stations_in w) kept.ranges in
         rw e (
           rows-held (displaced p (stations_in w)) (omega (arith, few, displaced-length p (stations_in w)))
-              (displaced-ascending p (stations_in w) kept.table.ascending) each,
+              (displaced_ascending p (stations_in w) kept.table.ascending) each,
           stations_of (displaced p (stations_in w)) each,
         )
 
     -- A new station: the table after (e) has room ..
     module _ {w' : List ℕ} (e : w' ≡ rows_of (displaced p (stations_in w))) where
-      pub new-room : length (displaced p (stations_in w)) < capacity → RowsHeld w' × (length (stations_in w') < capacity)
-      new-room low = let (k, lives) = displaced-rows e in (k, rw lives low)
+      pub new_room : length (displaced p (stations_in w)) < capacity → RowsHeld w' × (length (stations_in w') < capacity)
+      new_room low = let (k, lives) = displaced-rows e in (k, rw lives low)
 
-      pub new-placed : {w'' : List ℕ} {s : Station} → s ≡ newcomer p → w'' ≡ rows_of (inserted s (stations_in w'))
+      pub new_placed : {w'' : List ℕ} {s : Station} → s ≡ newcomer p → w'' ≡ rows_of (inserted s (stations_in w'))
           → left w'' 0 ≡ left_by (placed_new p (stations_in w))
       unfolding placed_new
-      new-placed new put = let (k, lives) = displaced-rows e in tell_both (placed_new p (stations_in w)) (refl, put ∙ rw (lives, new))
+      new_placed new put = let (k, lives) = displaced-rows e in tell_both (placed_new p (stations_in w)) (refl, put ∙ rw (lives, new))
 
       -- .. and where its count is as before, the place of the address is too.
       module _ (at : ℕ) (rank : at ≡ rank_of p.address (stations_in w)) {n m : ℕ} (long : n ≡ get_or w 0 0) (long' : m ≡ get_or w' 0 0)
@@ -214,30 +214,30 @@ module _ {w : List ℕ} (kept : RowsHeld w) where
 
         pub new_place : length (displaced p (stations_in w)) < capacity
             → RowsHeld w' × (length (stations_in w') < capacity) × (at ≤ length (stations_in w'))
-        new_place low = ((new-room low).0, (new-room low).1, omega (arith, rank-still, rank-low p.address (stations_in w')))
+        new_place low = ((new_room low).0, (new_room low).1, omega (arith, rank-still, rank-low p.address (stations_in w')))
 
-        pub new-there : {w'' : List ℕ} {s : Station} → s ≡ newcomer p → w'' ≡ rows_of (inserted_at at s (stations_in w'))
+        pub new_there : {w'' : List ℕ} {s : Station} → s ≡ newcomer p → w'' ≡ rows_of (inserted_at at s (stations_in w'))
             → left w'' 0 ≡ left_by (placed_new p (stations_in w))
-        new-there {w''} {s} new put =
+        new_there {w''} {s} new put =
             let a : at ≡ rank_of s.address (stations_in w') = rank-still ∙ ap (λ (q : Station). rank_of q.address (stations_in w')) (sym new) in
-            new-placed new (put ∙ ap (λ (i : ℕ). rows_of (inserted_at i s (stations_in w'))) a ∙ ap rows_of (insert_is s (stations_in w')))
+            new_placed new (put ∙ ap (λ (i : ℕ). rows_of (inserted_at i s (stations_in w'))) a ∙ ap rows_of (insert_is s (stations_in w')))
 
-    pub new-report : found p.address (stations_in w) ≡ Nothing → placed p (stations_in w) ≡ placed_new p (stations_in w)
+    pub new_report : found p.address (stations_in w) ≡ Nothing → placed p (stations_in w) ≡ placed_new p (stations_in w)
     unfolding placed
-    new-report is = rw (found_none p.address (stations_in w) is).sequence
+    new_report is = rw (found_none p.address (stations_in w) is).sequence
 
     -- A known station, at its place.
     module _ (at : ℕ) (is : found p.address (stations_in w) ≡ At at) where
-      pub known-inside : at < length (stations_in w)
-      known-inside = (found_stands p.address (stations_in w) at is).inside
+      pub known_inside : at < length (stations_in w)
+      known_inside = (found_stands p.address (stations_in w) at is).inside
 
       pub known-report : placed p (stations_in w) ≡ placed_known (distance p.sequence (get_or (stations_in w) at blank).sequence) p (stations_in w)
       unfolding placed
       known-report = rw (found_stands p.address (stations_in w) at is).sequence
 
-      renewed-is : (d : ℕ) → set (stations_in w) at (heard_again d p (get_or (stations_in w) at blank)) ≡ renewed p.address (heard_again d p) (stations_in w)
-      renewed-is d =
-          set-renewed p.address (heard_again d p) (stations_in w) at kept.table.ascending known-inside
+      renewed_is : (d : ℕ) → set (stations_in w) at (heard_again d p (get_or (stations_in w) at blank)) ≡ renewed p.address (heard_again d p) (stations_in w)
+      renewed_is d =
+          set-renewed p.address (heard_again d p) (stations_in w) at kept.table.ascending known_inside
           (found_stands p.address (stations_in w) at is).address
 
       module _ {w' : List ℕ} (d : ℕ) (fits : Fits p) (e : w' ≡ rows_of (set (stations_in w) at (heard_again d p (get_or (stations_in w) at blank)))) where
@@ -245,9 +245,9 @@ module _ {w : List ℕ} (kept : RowsHeld w) where
         renewed-rows =
             let l : List Station = renewed p.address (heard_again d p) (stations_in w) in
             let each : Each InRange l = renewed-all p.address (heard_again d p) InRange (again_ranged d p fits) (stations_in w) kept.ranges in
-            rw (e, renewed-is d) (
+            rw (e, renewed_is d) (
               rows-held l (omega (arith, few, renewed-length p.address (heard_again d p) (stations_in w)))
-                  (renewed-ascending p.address (heard_again d p) (again-address d p) (stations_in w) kept.table.ascending) each,
+                  (renewed_ascending p.address (heard_again d p) (again-address d p) (stations_in w) kept.table.ascending) each,
               stations_of l each,
             )
 
@@ -255,25 +255,25 @@ module _ {w : List ℕ} (kept : RowsHeld w) where
         pub renewed_sole : (o : ℕ) → Sole p o (stations_in w) → RowsHeld w' × Sole p o (stations_in w')
         renewed_sole o sole =
             let s : Station = get_or (stations_in w) at blank in
-            let lives : stations_in w' ≡ set (stations_in w) at (heard_again d p s) = renewed-rows.1 ∙ sym (renewed-is d) in (
+            let lives : stations_in w' ≡ set (stations_in w) at (heard_again d p s) = renewed-rows.1 ∙ sym (renewed_is d) in (
               renewed-rows.0,
               rw lives
-                  (sole_set p o at (heard_again d p s) (stations_in w) sole known-inside
+                  (sole_set p o at (heard_again d p s) (stations_in w) sole known_inside
                   (again-address d p s ∙ (found_stands p.address (stations_in w) at is).address)),
             )
 
       -- d is the distance as the code takes it.
       module _ {d q : ℕ} (read : q ≡ (station_in w at).sequence) (far : d ≡ distance p.sequence q) where
         distance_is : d ≡ distance p.sequence (get_or (stations_in w) at blank).sequence
-        distance_is = far ∙ ap (distance p.sequence) (read ∙ ap (λ (s : Station). s.sequence) (stored_is at known-inside))
+        distance_is = far ∙ ap (distance p.sequence) (read ∙ ap (λ (s : Station). s.sequence) (stored_is at known_inside))
 
         known_as : {w'' : List ℕ} {n : ℕ} → left w'' n ≡ left_by (placed_known d p (stations_in w))
             → left w'' n ≡ left_by (placed_known (distance p.sequence (get_or (stations_in w) at blank).sequence) p (stations_in w))
         known_as e = e ∙ ap (λ (k : ℕ). left_by (placed_known k p (stations_in w))) distance_is
 
-        pub known-old : 128 < d → left w 22 ≡ left_by (placed_known (distance p.sequence (get_or (stations_in w) at blank).sequence) p (stations_in w))
+        pub known_old : 128 < d → left w 22 ≡ left_by (placed_known (distance p.sequence (get_or (stations_in w) at blank).sequence) p (stations_in w))
         unfolding placed_known
-        known-old old = known_as (tell_both (placed_known d p (stations_in w)) (rw (lt-ltb 128 d old), rw (lt-ltb 128 d old) rows_whole))
+        known_old old = known_as (tell_both (placed_known d p (stations_in w)) (rw (lt-ltb 128 d old), rw (lt-ltb 128 d old) rows_whole))
 
         pub known-placed : {w' w'' : List ℕ} → Fits p → d ≤ 128 → w' ≡ rows_of (set (stations_in w) at (heard_again d p (get_or (stations_in w) at blank)))
             → w'' ≡ rows_of (displaced p (stations_in w'))

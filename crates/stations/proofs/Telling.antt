@@ -9,10 +9,10 @@ use Rattle.stations.specs.Table.{Each, Ascending, At, blank, found}
 use Rattle.stations.specs.Rows.{stations_in, rows_of, InRange, Near, RowsKept, left, left_by}
 use Rattle.stations.proofs.Lists.{each_map}
 use Rattle.stations.proofs.Hops.{near-set, cleared_lowers}
-use Rattle.stations.proofs.Sifting.{sifted-each, sifted-all, sifted-apart, purged-ascending, purged-length}
+use Rattle.stations.proofs.Sifting.{sifted_each, sifted-all, sifted_apart, purged_ascending, purged-length}
 use Rattle.stations.proofs.Places.{found_stands, set-renewed}
 use Rattle.stations.proofs.Words.{stations_of, rows-held}
-use Rattle.stations.proofs.Reading.{count_long, count-few}
+use Rattle.stations.proofs.Reading.{count_long, count_few}
 use Rattle.stations.proofs.Storing.{rows_whole, hop_ranged}
 pub use Rattle.stations.proofs.Storing.{tell_both}
 
@@ -31,9 +31,9 @@ bytes_fit K true x e f =
     (omega arith, omega arith, omega arith, omega arith, omega arith)
 
 -- Words that hold a list of which so much is known are kept, and hold the list.
-rows-kept : (l : List Station) → length l ≤ capacity → Ascending l → Each InRange l → ((ringlet : ℕ) → Apart ringlet l)
+rows_kept : (l : List Station) → length l ≤ capacity → Ascending l → Each InRange l → ((ringlet : ℕ) → Apart ringlet l)
     → Each (λ (s : Station). placed_somewhere s ≡ true) l → Each Near l → RowsKept (rows_of l) × (stations_in (rows_of l) ≡ l)
-rows-kept l few up ranged apart heard near =
+rows_kept l few up ranged apart heard near =
     let same : stations_in (rows_of l) ≡ l = stations_of l ranged in
     (record { held = rows-held l few up ranged; apart = λ r. rw same (apart r); heard = rw same heard; near = rw same near }, same)
 
@@ -60,20 +60,20 @@ module _ (own forget : ℕ) (K : List ℕ) (low : forget ≤ 2 ^ 16) where
   stations_ranged l k = each_map (StationKept own forget K) InRange station_ranged l k.each
 
   -- The words of stations that are kept ..
-  pub stations-rows : (l : List Station) → StationsKept own forget K l → RowsKept (rows_of l) × (stations_in (rows_of l) ≡ l)
-  stations-rows l k =
-      rows-kept l k.few k.ascending (stations_ranged l k) k.apart
+  pub stations_rows : (l : List Station) → StationsKept own forget K l → RowsKept (rows_of l) × (stations_in (rows_of l) ≡ l)
+  stations_rows l k =
+      rows_kept l k.few k.ascending (stations_ranged l k) k.apart
       (each_map (StationKept own forget K) (λ (s : Station). placed_somewhere s ≡ true) (λ s q. q.somewhere) l k.each)
       (each_map (StationKept own forget K) Near (λ s q. (q.hop0, q.hop1)) l k.each)
 
   -- .. and words that are those of their stations.
-  pub whole-rows : {w : List ℕ} → w ≡ rows_of (stations_in w) → StationsKept own forget K (stations_in w) → RowsKept w
-  whole-rows {w} whole k = subst RowsKept (sym whole) (stations-rows (stations_in w) k).0
+  pub whole_rows : {w : List ℕ} → w ≡ rows_of (stations_in w) → StationsKept own forget K (stations_in w) → RowsKept w
+  whole_rows {w} whole k = subst RowsKept (sym whole) (stations_rows (stations_in w) k).0
 
 module _ {w : List ℕ} (k : RowsKept w) where
   -- Words that are kept hold what they hold.
-  pub tell-same : (n : ℕ) → left w n ≡ left_by (record { result = n; stations = stations_in w })
-  tell-same n = tell_both (record { result = n; stations = stations_in w }) (refl, rows_whole k.held)
+  pub tell_same : (n : ℕ) → left w n ≡ left_by (record { result = n; stations = stations_in w })
+  tell_same n = tell_both (record { result = n; stations = stations_in w }) (refl, rows_whole k.held)
 
   pub purged-rows : {w' : List ℕ} (ringlet : ℕ) → w' ≡ rows_of (purged ringlet (stations_in w))
       → RowsKept w' × (stations_in w' ≡ purged ringlet (stations_in w))
@@ -81,12 +81,12 @@ module _ {w : List ℕ} (k : RowsKept w) where
   purged-rows ringlet e =
       let l : List Station = stations_in w in
       rw e
-      (rows-kept (purged ringlet l) (omega (arith, count_long k.held, count-few k.held, purged-length ringlet l))
-      (purged-ascending ringlet l k.held.table.ascending)
-      (sifted-each (unpurged ringlet) (with_hop ringlet 0) InRange InRange (λ s r h. hop_ranged ringlet 0 s (omega arith) r) l k.held.ranges)
-      (λ r. sifted-apart (unpurged ringlet) (with_hop ringlet 0) r (cleared_lowers ringlet r) l (k.apart r))
+      (rows_kept (purged ringlet l) (omega (arith, count_long k.held, count_few k.held, purged-length ringlet l))
+      (purged_ascending ringlet l k.held.table.ascending)
+      (sifted_each (unpurged ringlet) (with_hop ringlet 0) InRange InRange (λ s r h. hop_ranged ringlet 0 s (omega arith) r) l k.held.ranges)
+      (λ r. sifted_apart (unpurged ringlet) (with_hop ringlet 0) r (cleared_lowers ringlet r) l (k.apart r))
       (sifted-all (unpurged ringlet) (with_hop ringlet 0) (λ (s : Station). placed_somewhere s ≡ true) (λ s stays. stays) l)
-      (sifted-each (unpurged ringlet) (with_hop ringlet 0) Near Near (λ s near h. near-set ringlet 0 s (omega arith) near) l k.near))
+      (sifted_each (unpurged ringlet) (with_hop ringlet 0) Near Near (λ s near h. near-set ringlet 0 s (omega arith) near) l k.near))
 
   -- Attributes stored at the place of an address are given to its station.
   pub given-at : (a : ℕ) (x : Attributes) (at : ℕ) → found a (stations_in w) ≡ At at

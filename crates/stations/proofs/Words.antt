@@ -148,26 +148,26 @@ blank_ranged = record {
 }
 
 -- A table's words tell the table, where its stations are in range.
-flat-places : (g : List Station) → Each InRange g → places_in (flat g) ≡ g
+flat_places : (g : List Station) → Each InRange g → places_in (flat g) ≡ g
 unfolding flat places_in Each
-flat-places [] e = refl
-flat-places (x ∷ g) e = rw (unpack_packed x e.0, flat-places g e.1)
+flat_places [] e = refl
+flat_places (x ∷ g) e = rw (unpack_packed x e.0, flat_places g e.1)
 
 each_append : (P : Station → Type 0) (l m : List Station) → Each P l → Each P m → Each P (l ++ m)
 unfolding Each
 each_append P [] m e f = f
 each_append P (x ∷ l) m e f = (e.0, each_append P l m e.1 f)
 
-each-blank : (n : ℕ) → Each InRange (replicate n blank)
+each_blank : (n : ℕ) → Each InRange (replicate n blank)
 unfolding Each
-each-blank zero = tt
-each-blank (suc n) = (blank_ranged, each-blank n)
+each_blank zero = tt
+each_blank (suc n) = (blank_ranged, each_blank n)
 
 pub table_of_lem : (l : List Station) → Each InRange l → table_in (rows_of l) ≡ table_of l
 unfolding table_in image table_of
 table_of_lem l e =
     ap (λ (p : List Station). record { places = p; count = length l })
-    (flat-places (l ++ replicate (capacity - length l) blank) (each_append InRange l (replicate (capacity - length l) blank) e (each-blank (capacity - length l))))
+    (flat_places (l ++ replicate (capacity - length l) blank) (each_append InRange l (replicate (capacity - length l) blank) e (each_blank (capacity - length l))))
 
 pub stations_of : (l : List Station) → Each InRange l → stations_in (rows_of l) ≡ l
 stations_of l e = ap live (table_of_lem l e) ∙ live_of l
@@ -233,5 +233,5 @@ pub rows_copy : (g : List Station) (n to i : ℕ)
 rows_copy g n to i = rw (rows0 g n i, rows1 g n i, rows2 g n i) (rows-put g n to (get_or g i blank))
 
 -- What is read at a place that holds a station in range.
-pub rows-read : {w : List ℕ} (g : List Station) (n i : ℕ) → w ≡ rows g n → InRange (get_or g i blank) → station_in w i ≡ get_or g i blank
-rows-read g n i e r = rw (e, rows0 g n i, rows1 g n i, rows2 g n i) (unpack_packed (get_or g i blank) r)
+pub rows_read : {w : List ℕ} (g : List Station) (n i : ℕ) → w ≡ rows g n → InRange (get_or g i blank) → station_in w i ≡ get_or g i blank
+rows_read g n i e r = rw (e, rows0 g n i, rows1 g n i, rows2 g n i) (unpack_packed (get_or g i blank) r)

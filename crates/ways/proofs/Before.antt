@@ -55,21 +55,21 @@ abbrev less_way : Option Way → Option OldWay
 less_way none = none
 less_way (some w) = some (record { worst = w.worst; hops = w.hops })
 
-same-onward : (r n : ℕ) (o : Option Walk) (s : Option Ends) → less_walk (onward r n o s) ≡ old_onward r (less_walk o) s
-same-onward r n none s = refl
-same-onward r n (some w) none = refl
-same-onward r n (some w) (some s) = refl
+same_onward : (r n : ℕ) (o : Option Walk) (s : Option Ends) → less_walk (onward r n o s) ≡ old_onward r (less_walk o) s
+same_onward r n none s = refl
+same_onward r n (some w) none = refl
+same_onward r n (some w) (some s) = refl
 
-same-walk : (r own : ℕ) (l : List Station) (h : ℕ) → less_walk (walk r own l h) ≡ old_walk r own l h
+same_walk : (r own : ℕ) (l : List Station) (h : ℕ) → less_walk (walk r own l h) ≡ old_walk r own l h
 unfolding walk old_walk
-same-walk r own l zero = refl
-same-walk r own l (suc h) =
-    same-onward r (suc h) (walk r own l h) (held r (suc h) l)
-    ∙ ap (λ (o : Option OldWalk). old_onward r o (held r (suc h) l)) (same-walk r own l h)
+same_walk r own l zero = refl
+same_walk r own l (suc h) =
+    same_onward r (suc h) (walk r own l h) (held r (suc h) l)
+    ∙ ap (λ (o : Option OldWalk). old_onward r o (held r (suc h) l)) (same_walk r own l h)
 
-same-usable : (h : ℕ) (o : Option Walk) → less_way (usable h o) ≡ old_usable h (less_walk o)
-same-usable h none = refl
-same-usable h (some w) = go (ltb 0 h && ltb w.worst SF)
+same_usable : (h : ℕ) (o : Option Walk) → less_way (usable h o) ≡ old_usable h (less_walk o)
+same_usable h none = refl
+same_usable h (some w) = go (ltb 0 h && ltb w.worst SF)
   where
     go : (b : Bool) → less_way (cond b (some (record { worst = w.worst; hops = h; span = w.span })) none)
         ≡ cond b (some (record { worst = w.worst; hops = h })) none
@@ -78,7 +78,7 @@ same-usable h (some w) = go (ltb 0 h && ltb w.worst SF)
 
 same_way : (r own : ℕ) (l : List Station) (h : ℕ) → less_way (way r own l h) ≡ old_usable h (old_walk r own l h)
 unfolding way
-same_way r own l h = same-usable h (walk r own l h) ∙ ap (old_usable h) (same-walk r own l h)
+same_way r own l h = same_usable h (walk r own l h) ∙ ap (old_usable h) (same_walk r own l h)
 
 same_chosen : (a b : Option Way) → chosen a b ≡ old_chosen (less_way a) (less_way b)
 same_chosen none none = refl

@@ -14,5 +14,5 @@ back East = refl
 back NoWay = refl
 back Unknown = refl
 
-pub number-tells : (x y : Reply) → number x ≡ number y → x ≡ y
-number-tells x y e = sym (back x) ∙ ap reply_of e ∙ back y
+pub number_tells : (x y : Reply) → number x ≡ number y → x ≡ y
+number_tells x y e = sym (back x) ∙ ap reply_of e ∙ back y

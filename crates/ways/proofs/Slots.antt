@@ -24,10 +24,10 @@ unfoldable place_of : ℕ → ℕ → ℕ → List Station → ℕ
 place_of r j i [] = 255
 place_of r j i (s ∷ l) = cond (eqb (hop r s) j) i (place_of r j (suc i) l)
 
-slots-long : (r i : ℕ) (l : List Station) → length (slots r i l) ≡ 256
+slots_long : (r i : ℕ) (l : List Station) → length (slots r i l) ≡ 256
 unfolding slots
-slots-long r i [] = refl
-slots-long r i (s ∷ l) = rw length-set (slots-long r (suc i) l)
+slots_long r i [] = refl
+slots_long r i (s ∷ l) = rw length-set (slots_long r (suc i) l)
 
 slot_read : (r j i : ℕ) (l : List Station) → j < 256 → get_or (slots r i l) j 0 ≡ place_of r j i l
 unfolding slots place_of
@@ -38,7 +38,7 @@ slot_read r j i (s ∷ l) low = go (eqb (hop r s) j) refl (slot_read r j (suc i)
         → get_or (set (slots r (suc i) l) (hop r s) i) j 0 ≡ cond b i (place_of r j (suc i) l)
     go true p ih =
         let q : hop r s ≡ j = eqb-true _ _ p in
-        rw q (get_or-set_same (slots r (suc i) l) j i 0 (omega (arith, slots-long r (suc i) l)))
+        rw q (get_or-set_same (slots r (suc i) l) j i 0 (omega (arith, slots_long r (suc i) l)))
     go false p ih = get_or-set_other (slots r (suc i) l) (hop r s) j i 0 (λ q. eqb-false _ _ p (sym q)) ∙ ih
 
 -- Every station has a place below the capacity, so that any other number, as 255, says that none holds the hop.

@@ -31,8 +31,8 @@ head_values_lem first last b = go (broken b) (leb first (kind_of b) && leb (kind
     go false false e = absurd (omega arith)
 
 -- Heads of one number with the same values are the same head.
-pub heads_told-apart : (x y : Head) → head_number x ≡ head_number y → head_values x ≡ head_values y → x ≡ y
-heads_told-apart (Refused m) (Refused n) e v = ap Refused e
-heads_told-apart (Refused m) (Kind k) e v = let l : ◌≡◌ {A = ℕ} 0 1 = ap length v in absurd (omega arith)
-heads_told-apart (Kind k) (Refused n) e v = let l : ◌≡◌ {A = ℕ} 1 0 = ap length v in absurd (omega arith)
-heads_told-apart (Kind j) (Kind k) e v = ap Kind (ap (λ (l : List ℕ). get_or l 0 0) v)
+pub heads_told_apart : (x y : Head) → head_number x ≡ head_number y → head_values x ≡ head_values y → x ≡ y
+heads_told_apart (Refused m) (Refused n) e v = ap Refused e
+heads_told_apart (Refused m) (Kind k) e v = let l : ◌≡◌ {A = ℕ} 0 1 = ap length v in absurd (omega arith)
+heads_told_apart (Kind k) (Refused n) e v = let l : ◌≡◌ {A = ℕ} 1 0 = ap length v in absurd (omega arith)
+heads_told_apart (Kind j) (Kind k) e v = ap Kind (ap (λ (l : List ℕ). get_or l 0 0) v)

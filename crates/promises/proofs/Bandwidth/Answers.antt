@@ -17,10 +17,10 @@ abbrev is_some : Option ℕ → Bool
 is_some none = false
 is_some (some a) = true
 
-any_is-first : (l : List Station) → any_behind l ≡ is_some (first_behind l)
+any_is_first : (l : List Station) → any_behind l ≡ is_some (first_behind l)
 unfolding any_behind first_behind
-any_is-first [] = refl
-any_is-first (s ∷ l) = go s.behind (first_behind l) (any_is-first l)
+any_is_first [] = refl
+any_is_first (s ∷ l) = go s.behind (first_behind l) (any_is_first l)
   where
     go : (b : Bool) (o : Option ℕ) → any_behind l ≡ is_some o → b || any_behind l ≡ is_some (cond b (some s.address) o)
     go true o e = refl
@@ -41,7 +41,7 @@ module _ (rate own0 own1 : ℕ) (l : List Station) where
 module _ (s : State) (rate own0 own1 : ℕ) where
   pub in_order_lem : (free_bandwidth s rate own0 own1).result ≡ first_applying rate_tests s rate
   unfolding free_bandwidth first_applying rate_tests
-  in_order_lem = rw any_is-first (go (ltb 65535 rate) (not (among 2 s.choice.known)) (first_behind s.stations))
+  in_order_lem = rw any_is_first (go (ltb 65535 rate) (not (among 2 s.choice.known)) (first_behind s.stations))
     where
       go : (p q : Bool) (o : Option ℕ)
           → (chosen p q o (numbers_for rate own0 own1 s.stations)).result ≡ cond p 4 (cond q 32 (cond (is_some o) 31 0))
@@ -63,6 +63,6 @@ module _ (s : State) (rate own0 own1 : ℕ) where
       go false false (some a) e = behinds a e
 
   -- At a node that knows type 2.
-  pub level-two : among 2 s.choice.known ≡ true → free_bandwidth s rate own0 own1 ≡ answer_for rate own0 own1 s.stations
+  pub level_two : among 2 s.choice.known ≡ true → free_bandwidth s rate own0 own1 ≡ answer_for rate own0 own1 s.stations
   unfolding free_bandwidth
-  level-two knows = rw knows
+  level_two knows = rw knows

@@ -24,10 +24,10 @@ use Rattle.promises.specs.History.{Call, after, start_of, Made, made_of, calls_o
 use Rattle.promises.specs.Levels.{NoEight, knowing, with_level, NoEightMade}
 use Rattle.promises.specs.Bandwidth.{rate_tests, first_applying, ShowsNothing, LowestBehind, rehopped, with_stations, SameFree}
 use Rattle.promises.proofs.Demand2.Coming.{state-after, ruled}
-use Rattle.promises.proofs.Roundtrip.RoundTrip.{level-is-written}
+use Rattle.promises.proofs.Roundtrip.RoundTrip.{level_is_written}
 use Rattle.promises.proofs.Bandwidth.Answers.{in_order_lem, by_cases}
 use Rattle.promises.proofs.Bandwidth.Below.{either_below}
-use Rattle.promises.proofs.Bandwidth.Lowest.{lowest-behind}
+use Rattle.promises.proofs.Bandwidth.Lowest.{lowest_behind}
 use Rattle.promises.proofs.Bandwidth.Hops.{hops_alike}
 use Rattle.promises.proofs.Bandwidth.Ends.{in_range_lem}
 use Rattle.promises.proofs.Bandwidth.TwoNodes.{rules_alike, nodes_alike}
@@ -40,15 +40,15 @@ refusals_in_order = in_order_lem
 pub level-one : {n : Node} → Kept n → (among 2 (state_of n).choice.known ≡ false) ↔ ((settings_of n).level ≡ 1)
 level-one {n} k =
     let level : ℕ = (settings_of n).level in
-    let low : leb 1 level ≡ true = ((and-eq-true_iff (leb 1 level) (leb level 2)).0 (level-is-written (settings_of n) k.settings.ranges)).0 in (
+    let low : leb 1 level ≡ true = ((and-eq-true_iff (leb 1 level) (leb level 2)).0 (level_is_written (settings_of n) k.settings.ranges)).0 in (
       λ e. omega (arith, leb-true 1 level low, leb-false 2 level (sym (knows_2 level) ∙ e)),
       λ e. knows_2 level ∙ lt-leb 2 level (omega arith),
     )
 
 -- "refused, both numbers are 0": so is all else, but for the address of 31.
-pub refused-shows-nothing : (s : State) (rate own0 own1 : ℕ) → ((free_bandwidth s rate own0 own1).result ≡ 0 → ⊥)
+pub refused_shows_nothing : (s : State) (rate own0 own1 : ℕ) → ((free_bandwidth s rate own0 own1).result ≡ 0 → ⊥)
     → ShowsNothing (free_bandwidth s rate own0 own1)
-refused-shows-nothing s rate own0 own1 =
+refused_shows_nothing s rate own0 own1 =
     by_cases s rate own0 own1 (λ (x : Free). (x.result ≡ 0 → ⊥) → ShowsNothing x)
     (λ n. shows 4 0 (λ q. refl))
     (λ n. shows 32 0 (λ q. refl))
@@ -59,13 +59,13 @@ refused-shows-nothing s rate own0 own1 =
     shows number address h = record { ringlet0 = refl; ringlet1 = refl; excess = refl; address = h }
 
 -- "31 if a station is behind, with the lowest such address".
-pub behind-is-lowest : {s : State} → StateKept s → (rate own0 own1 : ℕ) → (free_bandwidth s rate own0 own1).result ≡ 31
+pub behind_is_lowest : {s : State} → StateKept s → (rate own0 own1 : ℕ) → (free_bandwidth s rate own0 own1).result ≡ 31
     → LowestBehind s.stations (free_bandwidth s rate own0 own1).address
-behind-is-lowest {s} k rate own0 own1 =
+behind_is_lowest {s} k rate own0 own1 =
     by_cases s rate own0 own1 (λ (x : Free). x.result ≡ 31 → LowestBehind s.stations x.address)
     (λ q. absurd (omega arith))
     (λ q. absurd (omega arith))
-    (λ a e q. lowest-behind a s.stations k.stations.ascending e)
+    (λ a e q. lowest_behind a s.stations k.stations.ascending e)
     (λ q. absurd (omega arith))
 
 -- "give for each ringlet the rate minus all reservations".

@@ -17,12 +17,12 @@ use Rattle.stations.specs.Table.{Each, Ascending}
 use Rattle.stations.specs.Kept.{StationKept, Apart}
 use Rattle.controller.specs.State.{started}
 use Rattle.controller.specs.Kept.{StateKept}
-use Rattle.controller.proofs.Holding.{started-kept}
+use Rattle.controller.proofs.Holding.{started_kept}
 use Rattle.bandwidth.specs.Free.{reservations, unreserved}
 use Rattle.promises.specs.Examples.{station}
 use Rattle.promises.specs.SteeringDrills.{one}
 use Rattle.promises.specs.BandwidthDrills.{hop_on0, hop_on1, reserving, fullest}
-use Rattle.promises.proofs.Steering.MeetsSteering.{ticks-met}
+use Rattle.promises.proofs.Steering.MeetsSteering.{ticks_met}
 
 long : (k n : ℕ) → length (reserving k n) ≡ n
 unfolding reserving
@@ -74,10 +74,10 @@ one-hop k low high = go (leb k farthest) refl
     go true e = (leb-true k farthest e, omega arith, rw (ne_eqb k 0 (λ z. omega arith)))
     go false e = (omega arith, omega arith, rw (ne_eqb (k - farthest) 0 (λ z. omega (arith, leb-false k farthest e))))
 
-each-kept : (k n : ℕ) → 1 ≤ k → k + n ≤ capacity + 1 → Each (StationKept one.address one.ticks.forget one.known) (reserving k n)
+each_kept : (k n : ℕ) → 1 ≤ k → k + n ≤ capacity + 1 → Each (StationKept one.address one.ticks.forget one.known) (reserving k n)
 unfolding reserving Each among
-each-kept k zero low high = tt
-each-kept k (suc n) low high = (
+each_kept k zero low high = tt
+each_kept k (suc n) low high = (
   record {
     address = omega arith;
     even = even (suc k) (omega arith);
@@ -104,13 +104,13 @@ each-kept k (suc n) low high = (
       late = λ e. absurd (true≢false (sym e));
     };
   },
-  each-kept (suc k) n (omega arith) (omega arith),
+  each_kept (suc k) n (omega arith) (omega arith),
 )
 
-pub fullest-kept : StateKept fullest
+pub fullest_kept : StateKept fullest
 unfolding started down
-fullest-kept =
-    let k : StateKept (started one) = started-kept one ticks-met in
+fullest_kept =
+    let k : StateKept (started one) = started_kept one ticks_met in
     record {
       ticks = k.ticks;
       west = k.west;
@@ -119,7 +119,7 @@ fullest-kept =
         few = omega (arith, long 1 capacity);
         ascending = ascends 1 capacity;
         apart = λ ringlet. apart ringlet 1 capacity;
-        each = each-kept 1 capacity (omega arith) (omega arith);
+        each = each_kept 1 capacity (omega arith) (omega arith);
       };
       unheld0 = λ e. absurd (true≢false (sym e));
       unheld1 = λ e. absurd (true≢false (sym e));
@@ -136,6 +136,6 @@ all_of ringlet k (suc n) = go (eqb ringlet 0) (all_of ringlet (suc k) n)
     go true e = omega arith
     go false e = omega arith
 
-pub lower-end : (ringlet : ℕ) → unreserved ringlet 0 65535 fullest.stations ≡ neg_ℤ (pos (65535 * (capacity + 1)))
+pub lower_end : (ringlet : ℕ) → unreserved ringlet 0 65535 fullest.stations ≡ neg_ℤ (pos (65535 * (capacity + 1)))
 unfolding unreserved
-lower-end ringlet = rw (all_of ringlet 1 capacity)
+lower_end ringlet = rw (all_of ringlet 1 capacity)

@@ -40,10 +40,10 @@ module _ (a : ℕ) where
     lowest = (λ b. absurd (true≢false (sym b ∙ e)), k.lowest);
   }
 
-  pub lowest-behind : (l : List Station) → Ascending l → first_behind l ≡ some a → LowestBehind l a
+  pub lowest_behind : (l : List Station) → Ascending l → first_behind l ≡ some a → LowestBehind l a
   unfolding Ascending first_behind
-  lowest-behind [] up e = absurd (none-ne-some a e)
-  lowest-behind (s ∷ l) up e = go s.behind refl e (lowest-behind l up.1)
+  lowest_behind [] up e = absurd (none-ne-some a e)
+  lowest_behind (s ∷ l) up e = go s.behind refl e (lowest_behind l up.1)
     where
       go : (b : Bool) → s.behind ≡ b → cond b (some s.address) (first_behind l) ≡ some a → (first_behind l ≡ some a → LowestBehind l a)
           → LowestBehind (s ∷ l) a

@@ -19,8 +19,8 @@ use Rattle.controller.specs.Node.{shown, asked}
 use Rattle.bandwidth.specs.Free.{reservation, reservations, unreserved, first_behind, unless_behind, free_bandwidth}
 use Rattle.promises.specs.Levels.{dressed, value_shown, Levelled}
 use Rattle.promises.specs.Bandwidth.{SameFree}
-use Rattle.promises.proofs.Demand3.Dress.{attributes-dressed, same-dressed}
-use Rattle.promises.proofs.Bandwidth.Answers.{numbers_for, answer_for, level-two}
+use Rattle.promises.proofs.Demand3.Dress.{attributes-dressed, same_dressed}
+use Rattle.promises.proofs.Bandwidth.Answers.{numbers_for, answer_for, level_two}
 
 abbrev reply_of : Shown → ℕ
 reply_of y = y.reply
@@ -70,20 +70,20 @@ module _ (f : ℕ → Attributes) where
 module _ (K : List ℕ) (late : ℕ → Option (List ℕ)) (x s : State) (levelled : Levelled K late x s) (two : among 2 K ≡ true)
     (more : among 2 s.choice.known ≡ true) (f g : ℕ → Attributes) (l : List Station)
     (smaller : x.stations ≡ dressed f l) (larger : s.stations ≡ dressed g l) where
-  shows-smaller : (a : ℕ) → asked x a ≡ shown (cond (present a l) (some (f a)) none)
+  shows_smaller : (a : ℕ) → asked x a ≡ shown (cond (present a l) (some (f a)) none)
   unfolding asked
-  shows-smaller a = ap shown (ap (attributes_of a) smaller ∙ attributes-dressed f a l)
+  shows_smaller a = ap shown (ap (attributes_of a) smaller ∙ attributes-dressed f a l)
 
-  shows-larger : (a : ℕ) → asked s a ≡ shown (cond (present a l) (some (g a)) none)
+  shows_larger : (a : ℕ) → asked s a ≡ shown (cond (present a l) (some (g a)) none)
   unfolding asked
-  shows-larger a = ap shown (ap (attributes_of a) larger ∙ attributes-dressed g a l)
+  shows_larger a = ap shown (ap (attributes_of a) larger ∙ attributes-dressed g a l)
 
   -- Of a station that is not behind the larger node shows the same: both know type 2.
   alike : (a : ℕ) → present a l ≡ true → (f a).behind ≡ false → seen (f a) ≡ seen (g a)
   unfolding value_shown
   alike a p e =
-      let u : asked x a ≡ shown (some (f a)) = shows-smaller a ∙ rw p in
-      let v : asked s a ≡ shown (some (g a)) = shows-larger a ∙ rw p in
+      let u : asked x a ≡ shown (some (f a)) = shows_smaller a ∙ rw p in
+      let v : asked s a ≡ shown (some (g a)) = shows_larger a ∙ rw p in
       let z : (asked x a).reply ≡ 0 = ap reply_of u ∙ rw e in
       let n : ((asked x a).reply ≡ 1 → ⊥) = λ q. omega arith in
       let b : (f a).behind ≡ (g a).behind = e ∙ sym (fine (g a).behind (ap reply_of (sym v) ∙ sym (levelled.reply a n) ∙ z)) in
@@ -102,7 +102,7 @@ module _ (K : List ℕ) (late : ℕ → Option (List ℕ)) (x s : State) (levell
         found : ltb 65535 rate ≡ false → (o : Option ℕ) → first_behind (dressed f l) ≡ o → Sought f l o
             → answer_for rate own0 own1 (dressed f l) ≡ answer_for rate own0 own1 (dressed g l)
         found e none q k =
-            sym (answer-seen f rate own0 own1 l) ∙ ap (answer_for rate own0 own1) (same-dressed (seen_of f) (seen_of g) l (λ a p. alike a p (k a p)))
+            sym (answer-seen f rate own0 own1 l) ∙ ap (answer_for rate own0 own1) (same_dressed (seen_of f) (seen_of g) l (λ a p. alike a p (k a p)))
             ∙ answer-seen g rate own0 own1 l
         found e (some a) q k = absurd (n (rw (e, q)))
 
@@ -119,13 +119,13 @@ module _ (K : List ℕ) (late : ℕ → Option (List ℕ)) (x s : State) (levell
 
         found : (o : Option ℕ) → Sought f l o
             → ((unless_behind o (numbers_for rate own0 own1 (dressed f l))).result ≡ 31) ↔ ((a : ℕ) × ((asked x a).reply ≡ 1))
-        found none k = (λ e. absurd (omega arith), λ (a, q). absurd (nobody k a (present a l) refl (ap reply_of (sym (shows-smaller a)) ∙ q)))
-        found (some a) k = (λ e. (a, rw (shows-smaller a, k.0, k.1)), λ h. refl)
+        found none k = (λ e. absurd (omega arith), λ (a, q). absurd (nobody k a (present a l) refl (ap reply_of (sym (shows_smaller a)) ∙ q)))
+        found (some a) k = (λ e. (a, rw (shows_smaller a, k.0, k.1)), λ h. refl)
 
     pub same_numbers : SameFree x s rate own0 own1
     same_numbers =
         let u : free_bandwidth x rate own0 own1 ≡ answer_for rate own0 own1 (dressed f l) =
-        level-two x rate own0 own1 (ap (λ (c : Choice). among 2 c.known) levelled.choice ∙ two) ∙ ap (answer_for rate own0 own1) smaller in
+        level_two x rate own0 own1 (ap (λ (c : Choice). among 2 c.known) levelled.choice ∙ two) ∙ ap (answer_for rate own0 own1) smaller in
         let v : free_bandwidth s rate own0 own1 ≡ answer_for rate own0 own1 (dressed g l) =
-        level-two s rate own0 own1 more ∙ ap (answer_for rate own0 own1) larger in
+        level_two s rate own0 own1 more ∙ ap (answer_for rate own0 own1) larger in
         record { behind = λ low. rw u (behind-told low); else = λ n. rw (u, v) (same (rw u at n)) }

@@ -18,77 +18,77 @@ use Rattle.bandwidth.specs.Free.{free_bandwidth}
 use Rattle.promises.specs.Contracts.{RoutineMeets, RoutineAlwaysMeets}
 
 -- Any bytes.
-pub start-meets :
+pub start_meets :
     RoutineAlwaysMeets controller_contract.start.ended controller.start.Symbol.name controller.start.Symbol.code
     (λ κs a x e. Begun a.0.now (started_in e.1.0.now e.1.1.0.now x))
-start-meets w = controller.start.Met.met w.𝓤 w.𝓛 w.𝓜 w.𝓡
+start_meets w = controller.start.Met.met w.𝓤 w.𝓛 w.𝓜 w.𝓡
 
 -- A node that is kept; any bytes and any buffer.
-pub take-record-meets :
+pub take_record_meets :
     RoutineMeets controller_contract.take_record.ended controller.take_record.Symbol.name controller.take_record.Symbol.code
     (λ κs a. Kept (node a.0.now a.1.0.now))
     (λ κs a x e. Recorded (node a.0.now a.1.0.now) a.1.1.0.now a.1.1.1.0.now e.1.1.1.0.now
     (answer_in e.0.now e.1.0.now x))
-take-record-meets w = controller.take_record.Met.met w.𝓤 w.𝓛 w.𝓜 w.𝓡
+take_record_meets w = controller.take_record.Met.met w.𝓤 w.𝓛 w.𝓜 w.𝓡
 
 -- A node that is kept; any number for an address.
-pub steer-meets :
+pub steer_meets :
     RoutineMeets controller_contract.steer.ended controller.steer.Symbol.name controller.steer.Symbol.code
     (λ κs a. Kept (node a.0.now a.1.0.now))
     (λ κs a x e. x ≡ steering (state_of (node a.0.now a.1.0.now)) a.1.1.0)
-steer-meets w = controller.steer.Met.met w.𝓤 w.𝓛 w.𝓜 w.𝓡
+steer_meets w = controller.steer.Met.met w.𝓤 w.𝓛 w.𝓜 w.𝓡
 
-pub attributes-meets :
+pub attributes_meets :
     RoutineMeets controller_contract.attributes.ended controller.attributes.Symbol.name controller.attributes.Symbol.code
     (λ κs a. Kept (node a.0.now a.1.0.now))
     (λ κs a x e. x ≡ asked (state_of (node a.0.now a.1.0.now)) a.1.1.0)
-attributes-meets w = controller.attributes.Met.met w.𝓤 w.𝓛 w.𝓜 w.𝓡
+attributes_meets w = controller.attributes.Met.met w.𝓤 w.𝓛 w.𝓜 w.𝓡
 
-pub west-request-meets :
+pub west_request_meets :
     RoutineMeets controller_contract.west_request.ended controller.west_request.Symbol.name controller.west_request.Symbol.code
     (λ κs a. Kept (node a.0.now a.1.0.now))
     (λ κs a x e. x ≡ west_request (state_of (node a.0.now a.1.0.now)))
-west-request-meets w = controller.west_request.Met.met w.𝓤 w.𝓛 w.𝓜 w.𝓡
+west_request_meets w = controller.west_request.Met.met w.𝓤 w.𝓛 w.𝓜 w.𝓡
 
-pub east-request-meets :
+pub east_request_meets :
     RoutineMeets controller_contract.east_request.ended controller.east_request.Symbol.name controller.east_request.Symbol.code
     (λ κs a. Kept (node a.0.now a.1.0.now))
     (λ κs a x e. x ≡ east_request (state_of (node a.0.now a.1.0.now)))
-east-request-meets w = controller.east_request.Met.met w.𝓤 w.𝓛 w.𝓜 w.𝓡
+east_request_meets w = controller.east_request.Met.met w.𝓤 w.𝓛 w.𝓜 w.𝓡
 
-pub level-meets :
+pub level_meets :
     RoutineMeets controller_contract.level.ended controller.level.Symbol.name controller.level.Symbol.code
     (λ κs a. Kept (node a.0.now a.1.0.now))
     (λ κs a x e. x ≡ (settings_of (node a.0.now a.1.0.now)).level)
-level-meets w = controller.level.Met.met w.𝓤 w.𝓛 w.𝓜 w.𝓡
+level_meets w = controller.level.Met.met w.𝓤 w.𝓛 w.𝓜 w.𝓡
 
-pub own-sequence-meets :
+pub own_sequence_meets :
     RoutineMeets controller_contract.own_sequence.ended controller.own_sequence.Symbol.name controller.own_sequence.Symbol.code
     (λ κs a. Kept (node a.0.now a.1.0.now))
     (λ κs a x e. x ≡ (state_of (node a.0.now a.1.0.now)).pacer.sequence)
-own-sequence-meets w = controller.own_sequence.Met.met w.𝓤 w.𝓛 w.𝓜 w.𝓡
+own_sequence_meets w = controller.own_sequence.Met.met w.𝓤 w.𝓛 w.𝓜 w.𝓡
 
-pub station-count-meets :
+pub station_count_meets :
     RoutineMeets controller_contract.station_count.ended controller.station_count.Symbol.name controller.station_count.Symbol.code
     (λ κs a. Kept (node a.0.now a.1.0.now))
     (λ κs a x e. x ≡ length (state_of (node a.0.now a.1.0.now)).stations)
-station-count-meets w = controller.station_count.Met.met w.𝓤 w.𝓛 w.𝓜 w.𝓡
+station_count_meets w = controller.station_count.Met.met w.𝓤 w.𝓛 w.𝓜 w.𝓡
 
 -- A node that is kept; any numbers.
-pub free-bandwidth-meets :
+pub free_bandwidth_meets :
     RoutineMeets bandwidth_contract.free_bandwidth.ended bandwidth.free_bandwidth.Symbol.name bandwidth.free_bandwidth.Symbol.code
     (λ κs a. Kept (node a.0.now a.1.0.now))
     (λ κs a x e. x ≡ free_bandwidth (state_of (node a.0.now a.1.0.now)) a.1.1.0 a.1.1.1.0 a.1.1.1.1.0)
-free-bandwidth-meets w = bandwidth.free_bandwidth.Met.met w.𝓤 w.𝓛 w.𝓜 w.𝓡
+free_bandwidth_meets w = bandwidth.free_bandwidth.Met.met w.𝓤 w.𝓛 w.𝓜 w.𝓡
 
 -- Any numbers and any buffer.
-pub write-block-meets :
+pub write_block_meets :
     RoutineAlwaysMeets blocks_contract.write_block.ended blocks.write_block.Symbol.name blocks.write_block.Symbol.code
     (λ κs a x e. Wrote a.1.0 a.1.1.0 a.1.1.1.0 a.1.1.1.1.0 a.1.1.1.1.1.0 a.0.now e.0.now x)
-write-block-meets w = blocks.write_block.Met.met w.𝓤 w.𝓛 w.𝓜 w.𝓡
+write_block_meets w = blocks.write_block.Met.met w.𝓤 w.𝓛 w.𝓜 w.𝓡
 
 -- Any bytes and any level.
-pub read-block-meets :
+pub read_block_meets :
     RoutineAlwaysMeets blocks_contract.read_block.ended blocks.read_block.Symbol.name blocks.read_block.Symbol.code
     (λ κs a x e. x ≡ block_at a.1.0 a.0.now)
-read-block-meets w = blocks.read_block.Met.met w.𝓤 w.𝓛 w.𝓜 w.𝓡
+read_block_meets w = blocks.read_block.Met.met w.𝓤 w.𝓛 w.𝓜 w.𝓡

@@ -26,7 +26,7 @@ use Rattle.controller.specs.Handling.{acted, gives, hearing, taking, learning}
 use Rattle.controller.specs.Record.{refusal, outcomes}
 use Rattle.promises.specs.Refusals.{numbers, is_malformed, tests}
 use Rattle.promises.proofs.Demand1.Order.{of_all, first_of, Agrees, all_results}
-use Rattle.promises.proofs.Demand1.Results.{given, result-is}
+use Rattle.promises.proofs.Demand1.Results.{given, result_is}
 
 -- "After 0 and 20 to 24 the closing steps run": the numbers of a record that is not refused. 02, Item 6, takes 23 out.
 abbrev pub taken : List ℕ
@@ -42,12 +42,12 @@ module _ (p : Report) (l : List Station) where
       go true = refl
       go false = refl
 
-  new-taken : among (placed_new p l).result taken ≡ true
+  new_taken : among (placed_new p l).result taken ≡ true
   unfolding placed_new among
-  new-taken = refl
+  new_taken = refl
 
   placed-taken : (o : Option ℕ) → among (placed_by o p l).result taken ≡ true
-  placed-taken none = new-taken
+  placed-taken none = new_taken
   placed-taken (some stored) = known-taken (distance p.sequence stored)
 
 module _ (s : State) (block : List ℕ) where
@@ -174,12 +174,12 @@ module _ (s : State) (b : List ℕ) (room : ℕ) where
       ))))
 
   pub agrees : Agrees taken (first_of s b room tests) (outcomes s b room).result
-  agrees = rw (result-is s b room) reading_agrees
+  agrees = rw (result_is s b room) reading_agrees
 
   -- So the result is a number of the tests, or of a record that is not refused: all of them are listed.
-  pub result-listed : among (outcomes s b room).result numbers ≡ true
+  pub result_listed : among (outcomes s b room).result numbers ≡ true
   unfolding tests among
-  result-listed =
+  result_listed =
       all_results taken tests s b room (outcomes s b room).result agrees (λ n. among n numbers ≡ true)
       (refl, (refl, (refl, (refl, (refl, (refl, (refl, (refl, (refl, (refl, tt))))))))))
       (refl, (refl, (refl, (refl, (refl, tt)))))

@@ -93,8 +93,8 @@ Agrees T none r = among r T ≡ true
 Agrees T (some n) r = r ≡ n
 
 module _ (T : List ℕ) (l : List Test) (s : State) (b : List ℕ) (room r : ℕ) (a : Agrees T (first_of s b room l) r) where
-  pub first-given : (n : ℕ) → FirstApplies l s b room n → r ≡ n
-  first-given n f = rw (some_first s b room l n f) at a
+  pub first_given : (n : ℕ) → FirstApplies l s b room n → r ≡ n
+  first_given n f = rw (some_first s b room l n f) at a
 
   pub none-among : NoneApplies l s b room → among r T ≡ true
   none-among h = rw (none_first s b room l h) at a
@@ -106,8 +106,8 @@ module _ (T : List ℕ) (l : List Test) (s : State) (b : List ℕ) (room r : ℕ
       go none h e = f e
       go (some n) h e = g (rw e h)
 
-  pub other-first : (among r T ≡ true → ⊥) → FirstApplies l s b room r
-  other-first h = either (λ m. absurd (h m)) (λ f. f)
+  pub other_first : (among r T ≡ true → ⊥) → FirstApplies l s b room r
+  other_first h = either (λ m. absurd (h m)) (λ f. f)
 
   pub all_results : (P : ℕ → Type 0) → AllNumbers P l → All P T → P r
   all_results P p q =

@@ -16,10 +16,10 @@ use Rattle.controller.specs.Record.{Outcome, refusal, refuses, closed, outcome_o
 use Rattle.controller.specs.Node.{Node, Answer, state_of, answer_of}
 use Rattle.controller.specs.Kept.{Kept}
 use Rattle.controller.specs.Promise.{Recorded}
-use Rattle.controller.proofs.Nodes.{refused-same}
+use Rattle.controller.proofs.Nodes.{refused_same}
 use Rattle.controller.proofs.Reports.{over_none}
 use Rattle.controller.proofs.Manys.{many_read}
-use Rattle.controller.proofs.Ticking.{ticking-result}
+use Rattle.controller.proofs.Ticking.{ticking_result}
 
 module _ (s : State) (block : List ℕ) where
   -- What the handler of a record that was read makes of the spans and of the stations, with its result.
@@ -48,16 +48,16 @@ module _ (s : State) (block : List ℕ) where
 
 module _ (s : State) (b : List ℕ) (room : ℕ) where
   -- Many ticks and one have the same result, 0.
-  many-result : many_ticks b room ≡ true → given s (block_of b) (reading s.choice.address b room) ≡ 0
+  many_result : many_ticks b room ≡ true → given s (block_of b) (reading s.choice.address b room) ≡ 0
   unfolding given judged
-  many-result is = ap (λ (r : Reading). given s (block_of b) r) (many_read b room s.choice.address is)
+  many_result is = ap (λ (r : Reading). given s (block_of b) r) (many_read b room s.choice.address is)
 
-  pub result-is : (outcomes s b room).result ≡ given s (block_of b) (reading s.choice.address b room)
+  pub result_is : (outcomes s b room).result ≡ given s (block_of b) (reading s.choice.address b room)
   unfolding outcome outcomes
-  result-is = go (many_ticks b room) refl
+  result_is = go (many_ticks b room) refl
     where
       go : (x : Bool) → many_ticks b room ≡ x → (outcomes s b room).result ≡ given s (block_of b) (reading s.choice.address b room)
-      go true is = rw is (ticking-result (count_in (body_of b)) s ∙ sym (many-result is))
+      go true is = rw is (ticking_result (count_in (body_of b)) s ∙ sym (many_result is))
       go false is = rw is (result_of s (block_of b) (reading s.choice.address b room))
 
   pub untouched : refusal (outcomes s b room).result ≡ true → outcomes s b room ≡ refuses (outcomes s b room).result s
@@ -68,11 +68,11 @@ module _ (s : State) (b : List ℕ) (room : ℕ) where
       r = reading s.choice.address b room
 
       refused : refusal (given s (block_of b) r) ≡ true
-      refused = ap refusal (sym result-is) ∙ h
+      refused = ap refusal (sym result_is) ∙ h
 
       go : (x : Bool) → many_ticks b room ≡ x → outcomes s b room ≡ refuses (outcomes s b room).result s
-      go true is = absurd (false≢true (sym (ap refusal (many-result is)) ∙ refused))
-      go false is = rw result-is (rw is (refused_of s (block_of b) r refused))
+      go true is = absurd (false≢true (sym (ap refusal (many_result is)) ∙ refused))
+      go false is = rw result_is (rw is (refused_of s (block_of b) r refused))
 
 -- What a call that met its contract answers ..
 module _ {n : Node} {b old new : List ℕ} {r : Answer} (h : Recorded n b old new r) where
@@ -85,7 +85,7 @@ module _ {n : Node} {b old new : List ℕ} {r : Answer} (h : Recorded n b old ne
     same = untouched (state_of n) b (length old) (rw recorded_result at refused)
 
     pub answer-refused : r ≡ record { node = n; result = (outcomes (state_of n) b (length old)).result; reports = 0 }
-    answer-refused = h.is ∙ ap (answer_of n) same ∙ refused-same n (outcomes (state_of n) b (length old)).result k
+    answer-refused = h.is ∙ ap (answer_of n) same ∙ refused_same n (outcomes (state_of n) b (length old)).result k
 
     pub buffer-refused : new ≡ old
     buffer-refused = h.content ∙ ap (λ (o : Outcome). over o.report old) same ∙ sym (over_none old)

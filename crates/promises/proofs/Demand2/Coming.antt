@@ -31,13 +31,13 @@ module _ (st : Started) (first : Kept st.node) where
   state_after h = after_all (state_of st.node) (made_of h)
 
   -- The settings in the words are those of the beginning.
-  settings-is : (h : List Made) (n : Node) → Came c n (state_after h) → settings_of n ≡ c
-  settings-is h n k = settings-told n c (state_after h) k.kept k.is
+  settings_is : (h : List Made) (n : Node) → Came c n (state_after h) → settings_of n ≡ c
+  settings_is h n k = settings-told n c (state_after h) k.kept k.is
 
   -- What the rules make of a call at a node is what they make of it in their own state.
-  outcome-is : (h : List Made) (n : Node) (m : Made) → Came c n (state_after h)
+  outcome_is : (h : List Made) (n : Node) (m : Made) → Came c n (state_after h)
       → outcomes (state_of n) m.bytes (length m.old) ≡ answered_all (state_of st.node) (made_of h) (call_of m)
-  outcome-is h n m k = ap (λ (s : State). outcomes s m.bytes (length m.old)) k.shows
+  outcome_is h n m k = ap (λ (s : State). outcomes s m.bytes (length m.old)) k.shows
 
   came : (h : List Made) → Met st h → Came c (node_after st h) (state_after h)
   unfolding Met made_of after_all
@@ -51,9 +51,9 @@ module _ (st : Started) (first : Kept st.node) where
           record {
             is =
                 ap (λ (x : Answer). x.node) r.is
-                ∙ ap (λ (o : Outcome). node_of (settings_of n) o.state) (outcome-is h n m k)
-                ∙ ap (λ (x : Settings). node_of x (state_after (m ∷ h))) (settings-is h n k);
-            shows = r.shows ∙ ap (λ (o : Outcome). o.state) (outcome-is h n m k);
+                ∙ ap (λ (o : Outcome). node_of (settings_of n) o.state) (outcome_is h n m k)
+                ∙ ap (λ (x : Settings). node_of x (state_after (m ∷ h))) (settings_is h n k);
+            shows = r.shows ∙ ap (λ (o : Outcome). o.state) (outcome_is h n m k);
             kept = r.kept;
           }
 
@@ -67,11 +67,11 @@ module _ (st : Started) (first : Kept st.node) where
       let n : Node = node_after st h in
       let k : Came c n (state_after h) = came h met.1 in
       let r : Recorded n m.bytes m.old m.new m.answer = met.0 k.kept in
-      let e : m.answer ≡ answer_of n (answered_all (state_of st.node) (made_of h) (call_of m)) = r.is ∙ ap (answer_of n) (outcome-is h n m k) in
+      let e : m.answer ≡ answer_of n (answered_all (state_of st.node) (made_of h) (call_of m)) = r.is ∙ ap (answer_of n) (outcome_is h n m k) in
       record {
         result = ap (λ (x : Answer). x.result) e;
         written = ap (λ (x : Answer). x.reports) e;
-        content = r.content ∙ ap (λ (o : Outcome). over o.report m.old) (outcome-is h n m k);
+        content = r.content ∙ ap (λ (o : Outcome). over o.report m.old) (outcome_is h n m k);
       }
 
 -- From a start.

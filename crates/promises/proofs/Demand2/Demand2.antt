@@ -10,7 +10,7 @@ use Rattle.stations.specs.Kept.{StationsKept}
 use Rattle.controller.specs.Node.{Started, state_of, west_request, east_request}
 use Rattle.controller.specs.Promise.{Begun}
 use Rattle.promises.specs.History.{after, answered_all, Always, start_of, Made, call_of, made_of, calls_of, node_after, Met, Ruled, AnsweredAs}
-use Rattle.promises.proofs.Demand2.Telling.{report-tells, silent_stays}
+use Rattle.promises.proofs.Demand2.Telling.{report_tells, silent_stays}
 use Rattle.promises.proofs.Demand2.Coming.{ruled, answered_as}
 
 -- Every node is that of the rules, at every point; `calls_of` reads n ticks for a record of n ticks (02, Item 4).
@@ -37,7 +37,7 @@ pub demand2_report : (b : List ℕ) (st : Started) → Begun b st → (h : List 
     ReadsBack (take 7 (drop (7 * k) m.new)) s.pacer.sequence (west_request s) (east_request s) × (drop (7 * suc k) m.new ≡ drop (7 * suc k) m.old))
 unfolding Met
 demand2_report b st begun h m met =
-    report-tells (node_after st h) m.bytes m.old m.new m.answer (met.0 (ruled b st begun h met.1).kept)
+    report_tells (node_after st h) m.bytes m.old m.new m.answer (met.0 (ruled b st begun h met.1).kept)
 
 pub demand2_silent : (b : List ℕ) (st : Started) → Begun b st → (h : List Made) (m : Made) → Met st (m ∷ h) → m.answer.reports ≡ 0 → m.new ≡ m.old
 unfolding Met

@@ -11,7 +11,7 @@ use Rattle.promises.specs.History.{Call, after_all, answered_all, start_of, AllB
 use Rattle.promises.specs.Possible.{Handed, AllHanded, made}
 use Rattle.promises.specs.Drilled.{calls_for, Drilled}
 use Rattle.promises.proofs.Demand2.Coming.{state-made, answered_as}
-use Rattle.promises.proofs.Demand2.Possible.{begins, made-met}
+use Rattle.promises.proofs.Demand2.Possible.{begins, made_met}
 
 -- What the latest call of a history is answered.
 abbrev pub last_of : State → List Call → Outcome
@@ -52,24 +52,24 @@ handed b = record { bytes = b; old = replicate 7 0 }
 abbrev called : List ℕ → Call
 called b = record { bytes = b; room = 7 }
 
-handed-calls : (st : Started) (l : List (List ℕ)) → made_of (made st (map handed l)) ≡ map called l
+handed_calls : (st : Started) (l : List (List ℕ)) → made_of (made st (map handed l)) ≡ map called l
 unfolding made made_of
-handed-calls st [] = refl
-handed-calls st (b ∷ l) = ap (λ (h : List Call). called b ∷ h) (handed-calls st l)
+handed_calls st [] = refl
+handed_calls st (b ∷ l) = ap (λ (h : List Call). called b ∷ h) (handed_calls st l)
 
-handed-bytes : (l : List (List ℕ)) → AllBytes (map called l) → AllHanded (map handed l)
+handed_bytes : (l : List (List ℕ)) → AllBytes (map called l) → AllHanded (map handed l)
 unfolding AllBytes AllHanded
-handed-bytes [] bytes = tt
-handed-bytes (b ∷ l) bytes = (bytes.0, handed-bytes l bytes.1)
+handed_bytes [] bytes = tt
+handed_bytes (b ∷ l) bytes = (bytes.0, handed_bytes l bytes.1)
 
 -- The answers of the rules meet the contracts.
-pub drill-runs : (start : List ℕ) (l : List (List ℕ)) → Bytes start → AllBytes (calls_for l) → (h : List Made) × Drilled start l (started_with start) h
-drill-runs start l bytes all =
+pub drill_runs : (start : List ℕ) (l : List (List ℕ)) → Bytes start → AllBytes (calls_for l) → (h : List Made) × Drilled start l (started_with start) h
+drill_runs start l bytes all =
     let st : Started = started_with start in (
       made st (map handed (reverse l)),
       record {
         begun = begins start bytes;
-        calls = handed-calls st (reverse l);
-        met = made-met st (map handed (reverse l)) (handed-bytes (reverse l) all);
+        calls = handed_calls st (reverse l);
+        met = made_met st (map handed (reverse l)) (handed_bytes (reverse l) all);
       },
     )

@@ -17,7 +17,7 @@ use Rattle.stations.specs.Station.{hop, Same, with_hop, newcomer}
 use Rattle.stations.specs.Stations.{sifted, unpurged, purged, displaced, inserted, sequence_of}
 use Rattle.stations.specs.Hearing.{Placed, placed, placed_new}
 use Rattle.stations.proofs.Lists.{chosen}
-use Rattle.stations.proofs.Hops.{hop-other, hop-somewhere, newcomer-hop}
+use Rattle.stations.proofs.Hops.{hop_other, hop-somewhere, newcomer-hop}
 use Rattle.controller.specs.declared.reading.Reading.{Reading}
 use Rattle.controller.specs.declared.reading.Reading.TheVariants.{Heard}
 use Rattle.controller.specs.Reading.{block_of, many_ticks}
@@ -27,7 +27,7 @@ use Rattle.controller.specs.Closing.{is_tick, settled, purged_if, swept}
 use Rattle.controller.specs.Record.{Outcome, closed, outcome_of, outcome, outcomes}
 use Rattle.controller.proofs.Handing.{judged-settled}
 use Rattle.controller.proofs.Manys.{other_event}
-use Rattle.controller.proofs.ReadKept.{reading-kept}
+use Rattle.controller.proofs.ReadKept.{reading_kept}
 use Rattle.promises.specs.Room.{Newcomer, holds_hop}
 use Rattle.promises.proofs.Demand1.Results.{given, result_of}
 use Rattle.promises.proofs.Demand2.Spelling.{outcomes-one}
@@ -65,7 +65,7 @@ module _ (a r h : ℕ) where
       sifted_stands (unpurged q) (with_hop q 0)
       (λ s e.
       let (own, here) = both (eqb s.address a) (eqb (hop r s) h) e in
-      let at : hop r (with_hop q 0 s) ≡ h = hop-other q r 0 s other ∙ eqb-true (hop r s) h here in
+      let at : hop r (with_hop q 0 s) ≡ h = hop_other q r 0 s other ∙ eqb-true (hop r s) h here in
       (hop-somewhere r h (with_hop q 0 s) some at, rw (own, eq-eqb (hop r (with_hop q 0 s)) h at)))
 
 -- A report that got 0 was heard on its own ringlet, and its span is not down.
@@ -79,9 +79,9 @@ module _ (t : Ticks) (n : ℕ) (p : Report) (y : Spans) (l : List Station) where
       go true false e = (refl, refl)
       go false d e = absurd (omega arith)
 
-  heard-new : sequence_of p.address l ≡ none → (hearing t n p y l).result ≡ 0 → hearing t n p y l ≡ gives 0 (inserted (newcomer p) (displaced p l))
+  heard_new : sequence_of p.address l ≡ none → (hearing t n p y l).result ≡ 0 → hearing t n p y l ≡ gives 0 (inserted (newcomer p) (displaced p l))
   unfolding hearing placed placed_new
-  heard-new new e = let (own, up) = heard_open e in rw (own, up, new)
+  heard_new new e = let (own, up) = heard_open e in rw (own, up, new)
 
   -- The sweep that follows purges the other ringlet at most.
   swept_stands : eqb p.ringlet n ≡ true → down t (span_of n y) ≡ false → 1 ≤ p.hop → (m : List Station)
@@ -117,26 +117,26 @@ module _ (s : State) (b : List ℕ) (room n : ℕ) (p : Report) (bytes : Bytes b
   abbrev y : Spans
   y = settled t s.spans x
 
-  outcome-is : outcomes s b room ≡ outcome_of (Heard n p) (block_of b) s
+  outcome_is : outcomes s b room ≡ outcome_of (Heard n p) (block_of b) s
   unfolding outcome
-  outcome-is =
+  outcome_is =
       let single : many_ticks b room ≡ false = other_event b room s.choice.address (λ e. true≢false (sym (ap is_tick e) ∙ ap is_tick new.reads)) in
       outcomes-one (record { bytes = b; room = room }) s single ∙ ap (λ (r : Reading). outcome_of r (block_of b) s) new.reads
 
   heard : 1 ≤ p.hop
-  heard = let (span, k) = rw new.reads at (reading-kept s.choice.address b room bytes) in k.heard
+  heard = let (span, k) = rw new.reads at (reading_kept s.choice.address b room bytes) in k.heard
 
   pub newcomer_stands : (outcomes s b room).result ≡ 0 → holds_hop p.address p.ringlet p.hop (outcomes s b room).state.stations ≡ true
   unfolding outcome_of closed judged given
   newcomer_stands e =
       let result : (hearing t n p x s.stations).result ≡ 0 =
-      sym (result_of s (block_of b) (Heard n p)) ∙ ap (λ (o : Outcome). o.result) (sym outcome-is) ∙ e in
+      sym (result_of s (block_of b) (Heard n p)) ∙ ap (λ (o : Outcome). o.result) (sym outcome_is) ∙ e in
       let later : (hearing t n p y s.stations).result ≡ 0 =
       ap (λ (j : Placed). j.result) (judged-settled s.choice (Heard n p) (block_of b) s.spans x s.stations) ∙ result in
       let (own, up) = heard_open t n p y s.stations later in
       let is : hearing t n p x s.stations ≡ gives 0 (inserted (newcomer p) (displaced p s.stations)) =
-      heard-new t n p x s.stations new.unknown result in
+      heard_new t n p x s.stations new.unknown result in
       let there : holds_hop p.address p.ringlet p.hop (inserted (newcomer p) (displaced p s.stations)) ≡ true =
       inserted_stands p.address p.ringlet p.hop (newcomer p)
       (rw (eq-eqb p.address p.address refl, eq-eqb (hop p.ringlet (newcomer p)) p.hop (newcomer-hop p))) (displaced p s.stations) in
-      rw (outcome-is, is) (swept_stands t n p y s.stations own up heard (inserted (newcomer p) (displaced p s.stations)) there)
+      rw (outcome_is, is) (swept_stands t n p y s.stations own up heard (inserted (newcomer p) (displaced p s.stations)) there)

@@ -18,12 +18,12 @@ use Rattle.controller.specs.Node.{Node, Answer, state_of, node_in, reports_in}
 use Rattle.controller.specs.Kept.{Kept}
 use Rattle.controller.specs.Promise.{Recorded}
 use Rattle.controller.proofs.Manys.{one_event}
-use Rattle.controller.proofs.Ticking.{Reports, reports-number, reports_both, ticking-result}
+use Rattle.controller.proofs.Ticking.{Reports, reports-number, reports_both, ticking_result}
 use Rattle.promises.specs.History.{Call, tick_with, after_all, Made, made_of, Met, AnsweredAs}
 use Rattle.promises.specs.ManyTicks.{told_all, reports_left, all_reports, all_numbers, from, SameAs}
 use Rattle.promises.proofs.Demand2.Spelling.{tick-outcome, next-tick, outcomes-one, outcomes-many, many-room}
 use Rattle.promises.proofs.Demand2.Coming.{node_came, came_answered}
-use Rattle.promises.proofs.Demand2.Telling.{outcomes-whole, outcomes-room}
+use Rattle.promises.proofs.Demand2.Telling.{outcomes_whole, outcomes-room}
 
 -- By the rules: a call of a tick, and n of them after the calls h.
 module _ (room : ℕ) (enough : 7 ≤ room) where
@@ -67,12 +67,12 @@ module _ (s : State) (c : Call) (is : many_ticks c.bytes c.room ≡ true) where
       ∙ ap (told_all s) (append-nil ticks)
 
   pub many-taken : (outcomes s c.bytes c.room).result ≡ 0
-  many-taken = ap (λ (o : Outcome). o.result) (outcomes-many c s is) ∙ ticking-result (count_in (body_of c.bytes)) s
+  many-taken = ap (λ (o : Outcome). o.result) (outcomes-many c s is) ∙ ticking_result (count_in (body_of c.bytes)) s
 
 -- What the front of a buffer shows of what was written over it.
-front-is : (l old : List ℕ) → Reports (reports_in l) l → length l ≤ length old → take (7 * reports_in l) (over l old) ≡ l
+front_is : (l old : List ℕ) → Reports (reports_in l) l → length l ≤ length old → take (7 * reports_in l) (over l old) ≡ l
 unfolding over
-front-is l old whole room = rw (le-leb (length l) (length old) room) (take_at l (drop (length l) old) (7 * reports_in l) whole)
+front_is l old whole room = rw (le-leb (length l) (length old) room) (take_at l (drop (length l) old) (7 * reports_in l) whole)
 
 -- Calls of a program from a node that is kept: the reports that they left in their buffers, and the numbers that they told, are those of the rules.
 module _ (n : Node) (k : Kept n) where
@@ -84,10 +84,10 @@ module _ (n : Node) (k : Kept n) where
       let s : State = after_all (state_of n) (made_of h) in
       let o : Outcome = outcomes s m.bytes (length m.old) in
       let a : AnsweredAs m o = came_answered (from n) k h m met in
-      let whole : Reports (reports_in o.report) o.report = outcomes-whole s m.bytes (length m.old) in
+      let whole : Reports (reports_in o.report) o.report = outcomes_whole s m.bytes (length m.old) in
       let (same, number) = all_told h met.1 in
       let one : reports_left m ≡ o.report =
-      (λ i. take (7 * a.written i) (a.content i)) ∙ front-is o.report m.old whole (outcomes-room s m.bytes (length m.old)) in
+      (λ i. take (7 * a.written i) (a.content i)) ∙ front_is o.report m.old whole (outcomes-room s m.bytes (length m.old)) in
       (λ i. same i ++ one i, rw a.written (reports_both (all_numbers h) (reports_in o.report) (told_all (state_of n) (made_of h)) o.report number whole))
 
   -- The calls h are as many records of one tick as m says, each with the room that m has.

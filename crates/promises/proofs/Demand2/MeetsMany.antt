@@ -18,7 +18,7 @@ use Rattle.promises.specs.Examples.{tick, many}
 use Rattle.promises.specs.Cases.{fresh}
 use Rattle.promises.specs.ManyTicks.{from, SameAs}
 use Rattle.promises.proofs.Demand1.Meets1.{fresh_kept}
-use Rattle.promises.proofs.Demand2.Possible.{made-met, are_bytes_lem}
+use Rattle.promises.proofs.Demand2.Possible.{made_met, are_bytes_lem}
 use Rattle.promises.proofs.Demand2.ManyTicks.{many_as_single}
 
 -- A buffer with room for thirty reports.
@@ -31,7 +31,7 @@ one = record { bytes = tick; old = room }
 -- Thirty records of one tick ..
 pub thirty_met : Met (from fresh) (made (from fresh) (replicate 30 one))
 unfolding AllHanded are_bytes
-thirty_met = made-met (from fresh) (replicate 30 one) (each 30)
+thirty_met = made_met (from fresh) (replicate 30 one) (each 30)
   where
     each : (n : ℕ) → AllHanded (replicate n one)
     each zero = tt
@@ -50,16 +50,16 @@ all = record {
   answer = answer_of fresh (outcomes (state_of fresh) (many 30) 210);
 }
 
-pub all-met : Recorded fresh (many 30) room all.new all.answer
+pub all_met : Recorded fresh (many 30) room all.new all.answer
 unfolding Met made AllHanded are_bytes
-all-met = (made-met (from fresh) (record { bytes = many 30; old = room } ∷ []) (are_bytes_lem (many 30) refl, tt)).0 fresh_kept
+all_met = (made_met (from fresh) (record { bytes = many 30; old = room } ∷ []) (are_bytes_lem (many 30) refl, tt)).0 fresh_kept
 
 pub all-taken : many_ticks (many 30) 210 ≡ true
 unfolding many_ticks broken
 all-taken = refl
 
 pub all_same : SameAs fresh all (made (from fresh) (replicate 30 one))
-all_same = many_as_single fresh fresh_kept all all-met all-taken (made (from fresh) (replicate 30 one)) thirty_met thirty_calls
+all_same = many_as_single fresh fresh_kept all all_met all-taken (made (from fresh) (replicate 30 one)) thirty_met thirty_calls
 
 -- Three reports, of one and the same sequence: nothing has changed.
 pub all_three : (all.answer.reports ≡ 3) × (all.answer.result ≡ 0)

@@ -19,9 +19,9 @@ use Rattle.promises.specs.LevelDrills.{call}
 use Rattle.promises.specs.SteeringDrills.{one}
 use Rattle.promises.specs.Room.{Newcomer, crowd, two_rings}
 use Rattle.promises.proofs.Demand2.AfterKept.{after_kept}
-use Rattle.promises.proofs.Demand2.Possible.{all-bytes, are_bytes_lem}
+use Rattle.promises.proofs.Demand2.Possible.{all_bytes_lem, are_bytes_lem}
 use Rattle.promises.proofs.Demand2.Room.{place_in}
-use Rattle.promises.proofs.Steering.MeetsSteering.{ticks-met}
+use Rattle.promises.proofs.Steering.MeetsSteering.{ticks_met}
 
 -- Node 1 after the reports of 126 stations.
 unfoldable pub full : State
@@ -37,9 +37,9 @@ unfoldable pub on1 : List Station → ℕ
 on1 [] = 0
 on1 (s ∷ l) = cond (eqb s.hop0 0 && not (eqb s.hop1 0)) (suc (on1 l)) (on1 l)
 
-pub full-places : (length full.stations ≡ capacity) × (on0 full.stations ≡ farthest) × (on1 full.stations ≡ farthest)
+pub full_places : (length full.stations ≡ capacity) × (on0 full.stations ≡ farthest) × (on1 full.stations ≡ farthest)
 unfolding full on0 on1
-full-places = (refl, refl, refl)
+full_places = (refl, refl, refl)
 
 -- One more station, at hop 7 of ringlet 1: after these reports 01 said 23. It is taken, and station 71, which was there, has left.
 abbrev pub one_more : Call
@@ -56,9 +56,9 @@ unfolding started after crowd address_at present
 one_more_lem = (refl, refl, refl, refl)
 
 -- What `place_in` supposes is met there.
-pub full-bytes : AllBytes two_rings
+pub full_bytes : AllBytes two_rings
 unfolding all_bytes crowd
-full-bytes = all-bytes two_rings refl
+full_bytes = all_bytes_lem two_rings refl
 
 abbrev arriving : Report
 arriving = record { address = station 200; ringlet = 1; hop = 7; sequence = 1; west = 0; east = 0 }
@@ -69,4 +69,4 @@ arrives = record { reads = refl; unknown = refl }
 
 pub place_met : length (displaced arriving full.stations) < capacity
 unfolding are_bytes full
-place_met = place_in full (after_kept one ticks-met two_rings full-bytes) one_more.bytes one_more.room (are_bytes_lem one_more.bytes refl) 1 arriving arrives
+place_met = place_in full (after_kept one ticks_met two_rings full_bytes) one_more.bytes one_more.room (are_bytes_lem one_more.bytes refl) 1 arriving arrives

@@ -13,7 +13,7 @@ use Rattle.controller.specs.State.{State}
 use Rattle.controller.specs.Node.{Node, Answer, Started, state_of}
 use Rattle.controller.specs.Kept.{StateKept}
 use Rattle.controller.specs.Promise.{Begun, Recorded}
-use Rattle.controller.proofs.ReadKept.{reading-kept}
+use Rattle.controller.proofs.ReadKept.{reading_kept}
 use Rattle.promises.specs.History.{Made, node_after, Met}
 use Rattle.promises.specs.Room.{Newcomer}
 use Rattle.promises.proofs.Demand1.Demand1.{results-listed}
@@ -23,7 +23,7 @@ use Rattle.promises.proofs.Demand2.Coming.{ruled}
 pub place_in : (s : State) → StateKept s → (b : List ℕ) (room : ℕ) → Bytes b → (n : ℕ) (p : Report) → Newcomer s b room n p
     → length (displaced p s.stations) < capacity
 place_in s k b room bytes n p new =
-    let (span, heard) = rw new.reads at (reading-kept s.choice.address b room bytes) in
+    let (span, heard) = rw new.reads at (reading_kept s.choice.address b room bytes) in
     place s.choice.address s.choice.ticks.forget s.choice.known p heard s.stations k.stations new.unknown
 
 -- Of the program, after any calls.

@@ -30,13 +30,13 @@ spelled_both (c ∷ x) h = ap (λ (l : List Call). spelled c ++ l) (spelled_both
 
 -- A tick with room is a tick.
 module _ (room : ℕ) (enough : 7 ≤ room) where
-  pub tick-read : (own : ℕ) → reading own (tick_with room).bytes room ≡ Tick
+  pub tick_read : (own : ℕ) → reading own (tick_with room).bytes room ≡ Tick
   unfolding reading broken
-  tick-read own = rw (le-ltb room 7 enough) refl
+  tick_read own = rw (le-ltb room 7 enough) refl
 
   pub tick-outcome : (s : State) → outcome s (tick_with room).bytes room ≡ outcome_of Tick [] s
   unfolding outcome
-  tick-outcome s = ap (λ (r : Reading). outcome_of r [] s) (tick-read s.choice.address)
+  tick-outcome s = ap (λ (r : Reading). outcome_of r [] s) (tick_read s.choice.address)
 
   pub tick-taken : (s : State) → (outcome s (tick_with room).bytes room).result ≡ 0
   unfolding outcome_of acted judged closed

@@ -28,7 +28,7 @@ use Rattle.controller.specs.Handling.{acted, judged}
 use Rattle.controller.specs.Closing.{settled, pacing, is_tick, report_of}
 use Rattle.controller.specs.Record.{Outcome, refusal, refuses, closed, outcome_of, outcome, ticking, outcomes}
 use Rattle.controller.specs.Promise.{Recorded}
-use Rattle.controller.proofs.Reports.{over_none, report-whole}
+use Rattle.controller.proofs.Reports.{over_none, report_whole}
 use Rattle.controller.proofs.Manys.{many_parts}
 use Rattle.controller.proofs.Ticking.{Reports, reports-number, reports_both, ticks-reports}
 
@@ -40,29 +40,29 @@ bytes_of p = report_bytes p.sequence p.west p.east
 abbrev Tells : Pacer → List ℕ → Pacer → Type 0
 Tells p l q = ((l ≡ []) × (bytes_of q ≡ bytes_of p)) ⊎ ((front : List ℕ) × (k : ℕ) × Reports k front × (l ≡ front ++ bytes_of q))
 
-ticked-tells : (fast slow : ℕ) (p : Pacer) → Tells p (report_of (ticked fast slow p)) (ticked fast slow p).pacer
+ticked_tells : (fast slow : ℕ) (p : Pacer) → Tells p (report_of (ticked fast slow p)) (ticked fast slow p).pacer
 unfolding ticked
-ticked-tells fast slow p = go (eqb (p.timer - 1) 0)
+ticked_tells fast slow p = go (eqb (p.timer - 1) 0)
   where
     go : (b : Bool) → Tells p (report_of (cond b (due fast slow p) (falling p))) (cond b (due fast slow p) (falling p)).pacer
     go true = inr ([], 0, refl, refl)
     go false = inl (refl, refl)
 
-paced-tells : (fast slow : ℕ) (tick : Bool) (west east : ℕ) (p : Pacer) → Tells p (report_of (paced fast slow tick west east p)) (paced fast slow tick west east p).pacer
+paced_tells : (fast slow : ℕ) (tick : Bool) (west east : ℕ) (p : Pacer) → Tells p (report_of (paced fast slow tick west east p)) (paced fast slow tick west east p).pacer
 unfolding paced
-paced-tells fast slow tick west east p = go (eqb p.west west && eqb p.east east) tick
+paced_tells fast slow tick west east p = go (eqb p.west west && eqb p.east east) tick
   where
     step : Bool → Bool → Paced
     step same t = cond same (cond t (ticked fast slow p) (record { pacer = p; wrote = false })) (changed fast west east p)
 
     go : (same t : Bool) → Tells p (report_of (step same t)) (step same t).pacer
-    go true true = ticked-tells fast slow p
+    go true true = ticked_tells fast slow p
     go true false = inl (refl, refl)
     go false t = inr ([], 0, refl, refl)
 
-outcome-tells : (r : Reading) (block : List ℕ) (s : State) → Tells s.pacer (outcome_of r block s).report (outcome_of r block s).state.pacer
+outcome_tells : (r : Reading) (block : List ℕ) (s : State) → Tells s.pacer (outcome_of r block s).report (outcome_of r block s).state.pacer
 unfolding outcome_of closed pacing
-outcome-tells r block s = go (refusal j.result)
+outcome_tells r block s = go (refusal j.result)
   where
     t : Ticks
     t = s.choice.ticks
@@ -81,7 +81,7 @@ outcome-tells r block s = go (refusal j.result)
 
     go : (b : Bool) → Tells s.pacer (o b).report (o b).state.pacer
     go true = inl (refl, refl)
-    go false = paced-tells t.fast t.slow (is_tick r) (request t y.west) (request t y.east) s.pacer
+    go false = paced_tells t.fast t.slow (is_tick r) (request t y.west) (request t y.east) s.pacer
 
 -- One after another: what comes later is told last.
 both_tell : (p q r : Pacer) (l m : List ℕ) (k : ℕ) → Reports k l → Tells p l q → Tells q m r → Tells p (l ++ m) r
@@ -92,32 +92,32 @@ both_tell p q r l m k whole first =
     (λ (front, i, e, is). inr (front, i, e, ap (λ (x : List ℕ). l ++ x) none ∙ append-nil l ∙ is ∙ ap (λ (x : List ℕ). front ++ x) (sym same))) first)
     (λ (front, i, e, is). inr (l ++ front, k + i, reports_both k i l front whole e, ap (λ (x : List ℕ). l ++ x) is ∙ sym (append_assoc l front (bytes_of r))))
 
-tick-whole : (s : State) → Reports (reports_in (outcome_of Tick [] s).report) (outcome_of Tick [] s).report
+tick_whole : (s : State) → Reports (reports_in (outcome_of Tick [] s).report) (outcome_of Tick [] s).report
 unfolding outcome_of judged closed
-tick-whole s =
+tick_whole s =
     let t : Ticks = s.choice.ticks in
-    (report-whole (pacing t true (settled t s.spans (acted t Tick s.spans)) s.pacer)).0
+    (report_whole (pacing t true (settled t s.spans (acted t Tick s.spans)) s.pacer)).0
 
-ticking-tells : (n : ℕ) (s : State) → Tells s.pacer (ticking n s).report (ticking n s).state.pacer
+ticking_tells : (n : ℕ) (s : State) → Tells s.pacer (ticking n s).report (ticking n s).state.pacer
 unfolding ticking
-ticking-tells zero s = inl (refl, refl)
-ticking-tells (suc n) s =
+ticking_tells zero s = inl (refl, refl)
+ticking_tells (suc n) s =
     let o : Outcome = outcome_of Tick [] s in
-    both_tell s.pacer o.state.pacer (ticking n o.state).state.pacer o.report (ticking n o.state).report (reports_in o.report) (tick-whole s)
-    (outcome-tells Tick [] s) (ticking-tells n o.state)
+    both_tell s.pacer o.state.pacer (ticking n o.state).state.pacer o.report (ticking n o.state).report (reports_in o.report) (tick_whole s)
+    (outcome_tells Tick [] s) (ticking_tells n o.state)
 
 module _ (s : State) (b : List ℕ) (room : ℕ) where
   outcomes-tell : Tells s.pacer (outcomes s b room).report (outcomes s b room).state.pacer
   unfolding outcomes outcome
   outcomes-tell =
-      chosen (λ (o : Outcome). Tells s.pacer o.report o.state.pacer) (many_ticks b room) (λ is. ticking-tells (count_in (body_of b)) s)
-      (λ single. outcome-tells (reading s.choice.address b room) (block_of b) s)
+      chosen (λ (o : Outcome). Tells s.pacer o.report o.state.pacer) (many_ticks b room) (λ is. ticking_tells (count_in (body_of b)) s)
+      (λ single. outcome_tells (reading s.choice.address b room) (block_of b) s)
 
   -- What is written has room: an event writes one report at most.
-  outcome-whole : (r : Reading) (block : List ℕ)
+  outcome_whole : (r : Reading) (block : List ℕ)
       → Reports (reports_in (outcome_of r block s).report) (outcome_of r block s).report × (reports_in (outcome_of r block s).report ≤ 1)
   unfolding outcome_of closed
-  outcome-whole r block = go (refusal j.result)
+  outcome_whole r block = go (refusal j.result)
     where
       t : Ticks
       t = s.choice.ticks
@@ -133,7 +133,7 @@ module _ (s : State) (b : List ℕ) (room : ℕ) where
 
       go : (z : Bool) → Reports (reports_in (o z).report) (o z).report × (reports_in (o z).report ≤ 1)
       go true = (refl, omega arith)
-      go false = report-whole (pacing t (is_tick r) (settled t s.spans x) s.pacer)
+      go false = report_whole (pacing t (is_tick r) (settled t s.spans x) s.pacer)
 
   outcome-room : length (outcome s b room).report ≤ room
   unfolding outcome reading outcome_of judged
@@ -141,14 +141,14 @@ module _ (s : State) (b : List ℕ) (room : ℕ) where
     where
       go : (t : Bool) → ltb room 7 ≡ t → length (outcome_of (cond t (Refused 1) (read_in s.choice.address b room)) (block_of b) s).report ≤ room
       go true e = omega arith
-      go false e = let (whole, one) = outcome-whole (read_in s.choice.address b room) (block_of b) in omega (arith, ltb-false room 7 e, whole, one)
+      go false e = let (whole, one) = outcome_whole (read_in s.choice.address b room) (block_of b) in omega (arith, ltb-false room 7 e, whole, one)
 
   -- They are whole reports.
-  pub outcomes-whole : Reports (reports_in (outcomes s b room).report) (outcomes s b room).report
+  pub outcomes_whole : Reports (reports_in (outcomes s b room).report) (outcomes s b room).report
   unfolding outcomes outcome
-  outcomes-whole =
+  outcomes_whole =
       chosen (λ (o : Outcome). Reports (reports_in o.report) o.report) (many_ticks b room) (λ is. (ticks-reports (count_in (body_of b)) s).0)
-      (λ single. (outcome-whole (reading s.choice.address b room) (block_of b)).0)
+      (λ single. (outcome_whole (reading s.choice.address b room) (block_of b)).0)
 
   pub outcomes-room : length (outcomes s b room).report ≤ room
   unfolding outcomes
@@ -167,9 +167,9 @@ module _ (n : Node) (b old new : List ℕ) (r : Answer) (met : Recorded n b old 
   number_is = ap (λ (x : Answer). x.reports) met.is
 
   -- The pacer of the node that comes back has the own sequence and, as it is kept, the own requests.
-  own-bytes : bytes_of o.state.pacer ≡ report_bytes now.pacer.sequence (west_request now) (east_request now)
+  own_bytes : bytes_of o.state.pacer ≡ report_bytes now.pacer.sequence (west_request now) (east_request now)
   unfolding west_request east_request
-  own-bytes =
+  own_bytes =
       let p : now.pacer ≡ o.state.pacer = ap (λ (s : State). s.pacer) met.shows in
       ap bytes_of (sym p)
       ∙ ap (λ (w : ℕ). report_bytes now.pacer.sequence w now.pacer.east) met.kept.state.pacer.west_is
@@ -190,15 +190,15 @@ module _ (n : Node) (b old new : List ℕ) (r : Answer) (met : Recorded n b old 
       rest ∙ ap (λ (x : List ℕ). x ++ drop (7 * suc k) old) is ∙ append_assoc front own (drop (7 * suc k) old) in (
         long,
         (
-          rw split (drop_at front (own ++ drop (7 * suc k) old) (7 * k) whole) ∙ ap (λ (x : List ℕ). x ++ drop (7 * suc k) old) own-bytes,
+          rw split (drop_at front (own ++ drop (7 * suc k) old) (7 * k) whole) ∙ ap (λ (x : List ℕ). x ++ drop (7 * suc k) old) own_bytes,
           rw rest (drop_at o.report (drop (7 * suc k) old) (7 * suc k) long),
         ),
       )
 
-  pub report-tells : (k : ℕ) → r.reports ≡ suc k
+  pub report_tells : (k : ℕ) → r.reports ≡ suc k
       → ReadsBack (take 7 (drop (7 * k) new)) now.pacer.sequence (west_request now) (east_request now) × (drop (7 * suc k) new ≡ drop (7 * suc k) old)
   unfolding report_bytes
-  report-tells k some =
+  report_tells k some =
       ⊎_elim (λ (none, same). absurd (omega (arith, number_is, ap reports_in none)))
       (λ (front, j, whole, is).
       let (all, (place, stays)) = laid front j whole is in

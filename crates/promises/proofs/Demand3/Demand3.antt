@@ -16,7 +16,7 @@ use Rattle.controller.specs.Promise.{Begun}
 use Rattle.promises.specs.History.{Call, after, answered, spelled_out, after_all, answered_all, Always, start_of, Made, made_of, calls_of, node_after, Met}
 use Rattle.promises.specs.Levels.{NoEight, latest, no_blocks, knowing, Levelled, SameAnswer, SameCall, with_level, NoEightMade}
 use Rattle.promises.proofs.Demand2.Spelling.{read_as_ticks}
-use Rattle.promises.proofs.Demand3.TwoNodes.{at-one_point, same-answers, same-answers-all, latest-by_either, nodes_levelled, same-latest, calls_alike}
+use Rattle.promises.proofs.Demand3.TwoNodes.{at-one_point, same_answers, same_answers_all, latest-by_either, nodes_levelled, same_latest, calls_alike}
 
 -- To the rules: c are the settings of the larger node, K the types that the smaller knows, h the calls, the latest first.
 module _ (c : Choice) (K : List ℕ) (sub : Sub K c.known) where
@@ -29,16 +29,16 @@ module _ (c : Choice) (K : List ℕ) (sub : Sub K c.known) where
   -- Each call gives the same report, and the same result but for 24 beside 0.
   pub demand3_answers : (h : List Call) (d : Call) → NoEight (started c) (d ∷ h)
       → SameAnswer (answered (started (knowing K c)) h d) (answered (started c) h d)
-  demand3_answers h d n = same-answers c K sub h d n
+  demand3_answers h d n = same_answers c K sub h d n
 
   -- 02, Item 4: the calls h as they are made, with records of many ticks among them, and the next one d.
   pub demand3_many : (h : List Call) → NoEight (started c) (spelled_out h)
       → Levelled K (latest no_blocks (started c) (spelled_out h)) (after_all (started (knowing K c)) h) (after_all (started c) h)
   demand3_many h n = rw (read_as_ticks (started (knowing K c)) h, read_as_ticks (started c) h) (at-one_point c K sub (spelled_out h) n)
 
-  pub demand3_many-answers : (h : List Call) (d : Call) → NoEight (started c) (spelled_out (d ∷ h))
+  pub demand3_many_answers : (h : List Call) (d : Call) → NoEight (started c) (spelled_out (d ∷ h))
       → SameAnswer (answered_all (started (knowing K c)) h d) (answered_all (started c) h d)
-  demand3_many-answers h d n = same-answers-all c K sub h d n
+  demand3_many_answers h d n = same_answers_all c K sub h d n
 
   -- The latest blocks are the same, by whichever of the two nodes they are told.
   pub demand3_latest : (h : List Call) → NoEight (started c) h
@@ -68,7 +68,7 @@ module _ (a b : List ℕ) (level : ℕ) (lower : level ≤ (settings_in b).setti
   -- The latest blocks, by the smaller node's settings and calls, are those of `demand3_nodes`.
   pub demand3_latest_nodes : (g h : List Made) → made_of g ≡ made_of h → Met large h → NoEightMade h
       → (s : ℕ) → latest no_blocks (start_of a) (calls_of g) s ≡ latest no_blocks (start_of b) (calls_of h) s
-  demand3_latest_nodes = same-latest a b level lower equal small large begun-small begun-large
+  demand3_latest_nodes = same_latest a b level lower equal small large begun-small begun-large
 
 -- Level 1 beside level 2.
 pub demand3_levels : (a b : List ℕ) → (settings_in b).settings.level ≡ 2 → (settings_in a).settings ≡ with_level 1 (settings_in b).settings

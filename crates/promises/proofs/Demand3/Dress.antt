@@ -32,10 +32,10 @@ module _ (f : ℕ → Attributes) where
   present_dressed a [] = refl
   present_dressed a (s ∷ l) = ap (λ (b : Bool). eqb s.address a || b) (present_dressed a l)
 
-  pub sequence-dressed : (a : ℕ) (l : List Station) → sequence_of a (dressed f l) ≡ sequence_of a l
+  pub sequence_dressed : (a : ℕ) (l : List Station) → sequence_of a (dressed f l) ≡ sequence_of a l
   unfolding sequence_of dressed
-  sequence-dressed a [] = refl
-  sequence-dressed a (s ∷ l) = either (eqb s.address a) refl (sequence-dressed a l)
+  sequence_dressed a [] = refl
+  sequence_dressed a (s ∷ l) = either (eqb s.address a) refl (sequence_dressed a l)
 
   pub attributes-dressed : (a : ℕ) (l : List Station) → attributes_of a (dressed f l) ≡ cond (present a l) (some (f a)) none
   unfolding attributes_of dressed present
@@ -129,12 +129,12 @@ given-dressed f g a x y e others l =
     renewed_dressed f g a (with_attributes x) (with_attributes y) (λ s q. ap (λ (z : Attributes). with_attributes z s) (sym (ap g q ∙ e))) others l
 
 -- What is given for addresses that are not there does not count.
-pub same-dressed : (f g : ℕ → Attributes) (l : List Station) → ((a : ℕ) → present a l ≡ true → f a ≡ g a) → dressed f l ≡ dressed g l
+pub same_dressed : (f g : ℕ → Attributes) (l : List Station) → ((a : ℕ) → present a l ≡ true → f a ≡ g a) → dressed f l ≡ dressed g l
 unfolding dressed present
-same-dressed f g [] h = refl
-same-dressed f g (s ∷ l) h =
+same_dressed f g [] h = refl
+same_dressed f g (s ∷ l) h =
     let e : f s.address ≡ g s.address = h s.address (rw (eq-eqb s.address s.address refl)) in
-    rw (e, same-dressed f g l (λ a p. h a (go (eqb s.address a) (present a l) p)))
+    rw (e, same_dressed f g l (λ a p. h a (go (eqb s.address a) (present a l) p)))
   where
     go : (b c : Bool) → c ≡ true → b || c ≡ true
     go true c p = refl
@@ -174,9 +174,9 @@ module _ (f : ℕ → Attributes) (p : Report) where
       (ap (renewed p.address (heard_again d p)) (displaced-dressed f p l)
       ∙ renewed_dressed f f p.address (heard_again d p) (heard_again d p) (λ s e. heard-dressed d s) (λ x e. refl) (displaced p l)))
 
-  new-dressed : f p.address ≡ absent → (l : List Station) → placed_new p (dressed f l) ≡ dressed_placed f (placed_new p l)
+  new_dressed : f p.address ≡ absent → (l : List Station) → placed_new p (dressed f l) ≡ dressed_placed f (placed_new p l)
   unfolding placed_new
-  new-dressed e l =
+  new_dressed e l =
       rw (displaced-dressed f p l)
       (ap (puts 0)
       (ap (λ (x : Attributes). inserted (with_attributes x (newcomer p)) (dressed f (displaced p l))) (sym e)
@@ -185,8 +185,8 @@ module _ (f : ℕ → Attributes) (p : Report) where
   pub placed-dressed : (l : List Station) → (present p.address l ≡ false → f p.address ≡ absent)
       → placed p (dressed f l) ≡ dressed_placed f (placed p l)
   unfolding placed
-  placed-dressed l new = rw (sequence-dressed f p.address l) (go (sequence_of p.address l) (λ h. new (unknown-absent p.address l h)))
+  placed-dressed l new = rw (sequence_dressed f p.address l) (go (sequence_of p.address l) (λ h. new (unknown-absent p.address l h)))
     where
       go : (o : Option ℕ) → (o ≡ none → f p.address ≡ absent) → placed_by o p (dressed f l) ≡ dressed_placed f (placed_by o p l)
-      go none h = new-dressed (h refl) l
+      go none h = new_dressed (h refl) l
       go (some q) h = known-dressed (distance p.sequence q) l

@@ -23,10 +23,10 @@ use Rattle.promises.proofs.Demand3.Step.{Alike, step}
 use Rattle.promises.proofs.Demand3.Showing.{levelled}
 
 -- A malformed block is neither taken nor set aside.
-malformed-not : (n a : ℕ) (b : List ℕ) (s : State) → meaning s.choice.known b ≡ malformed
+malformed_not : (n a : ℕ) (b : List ℕ) (s : State) → meaning s.choice.known b ≡ malformed
     → taken_or_aside (outcome_of (Block n a) b s).result ≡ false
 unfolding outcome_of learning closed
-malformed-not n a b s e = rw e (go (down s.choice.ticks (span_of n s.spans)) (present a s.stations))
+malformed_not n a b s e = rw e (go (down s.choice.ticks (span_of n s.spans)) (present a s.stations))
   where
     choice : Bool → Bool → Outcome
     choice d p = unless_refused s false s.spans (cond d (gives 21 s.stations) (cond p (gives 8 s.stations) (gives 7 s.stations)))
@@ -44,7 +44,7 @@ not_taken (Link n x) bytes s a b e h = absurd (none-ne-some b h)
 not_taken (Keepalive n) bytes s a b e h = absurd (none-ne-some b h)
 not_taken (Operator n x) bytes s a b e h = absurd (none-ne-some b h)
 not_taken (Heard n p) bytes s a b e h = absurd (none-ne-some b h)
-not_taken (Block n x) bytes s a b e h = malformed-not n x (block_of bytes) s (go (eqb a x) h)
+not_taken (Block n x) bytes s a b e h = malformed_not n x (block_of bytes) s (go (eqb a x) h)
   where
     go : (q : Bool) → cond q (some (block_of bytes)) none ≡ some b → meaning s.choice.known (block_of bytes) ≡ malformed
     go true h = let z : block_of bytes ≡ b = cc in rw z e
@@ -104,9 +104,9 @@ module _ (f : ℕ → Option (List ℕ)) (s : State) (none-else : (a : ℕ) → 
     (first : (a : ℕ) (b : List ℕ) → f a ≡ some b → meaning s.choice.known b ≡ malformed → ⊥)
     (own : dressed (λ (a : ℕ). attributes_by s.choice.known (f a)) s.stations ≡ s.stations) where
   -- The larger node's attributes are a function of its latest blocks too: it is the case of K being all that it knows.
-  own-after : (h : List Call) → NoEight s h
+  own_after : (h : List Call) → NoEight s h
       → dressed (λ (a : ℕ). attributes_by (after s h).choice.known (latest f s h a)) (after s h).stations ≡ (after s h).stations
-  own-after h n =
+  own_after h n =
       let K : List ℕ = s.choice.known in
       let e : under K (λ (a : ℕ). attributes_by K (f a)) s ≡ s =
       ap (λ (l : List Station). record { choice = s.choice; spans = s.spans; stations = l; pacer = s.pacer }) own in
@@ -119,4 +119,4 @@ module _ (f : ℕ → Option (List ℕ)) (s : State) (none-else : (a : ℕ) → 
   levels K sub h n =
       levelled K (latest f s h) (after s h) (still f s none-else K sub h) (latest-absent f s none-else h)
       (λ a b q e. latest-fine f s none-else first h a b q (rw (choice-after s h) at e)) (after (under K (λ (a : ℕ). attributes_by K (f a)) s) h)
-      (follows f s none-else K sub h n) (own-after h n)
+      (follows f s none-else K sub h n) (own_after h n)

@@ -22,7 +22,7 @@ use Rattle.promises.specs.History.{after, after_all, spelled_out, answered, star
 use Rattle.promises.specs.Levels.{NoEight, latest, no_blocks, says_behind, with_level, NoEightMade}
 use Rattle.promises.specs.Possible.{AllHanded, made, are_bytes}
 use Rattle.promises.specs.LevelDrills.{call, small, large, type_two, joined, asides, type_one, takes, returns, ages, handed, small_node, large_node}
-use Rattle.promises.proofs.Demand2.Possible.{begins, made-met, calls-made, are_bytes_lem}
+use Rattle.promises.proofs.Demand2.Possible.{begins, made_met, calls_made, are_bytes_lem}
 use Rattle.promises.specs.Examples.{settings, station, many, report, attributes, shown_as}
 
 -- Level 1 and level 2, else equal.
@@ -38,16 +38,16 @@ pub aside_no_eight : NoEight large asides
 unfolding NoEight after start_of settings_in head_of broken full_in fields_of in_range address_at ticks_of cut known has sound behind value knows good among
 aside_no_eight = (λ e. omega arith, (λ e. omega arith, tt))
 
-pub aside-and-taken : ((answered small joined (call (attributes 2 type_two))).result ≡ 24)
+pub aside_and-taken : ((answered small joined (call (attributes 2 type_two))).result ≡ 24)
     × ((answered large joined (call (attributes 2 type_two))).result ≡ 0)
 unfolding after start_of settings_in head_of broken full_in fields_of in_range address_at ticks_of cut known has sound behind value knows good among
-aside-and-taken = (refl, refl)
+aside_and-taken = (refl, refl)
 
-pub aside-shown : (asked (after small asides) (station 2) ≡ says_behind 2)
+pub aside_shown : (asked (after small asides) (station 2) ≡ says_behind 2)
     × (shown_as (asked (after large asides) (station 2)) ≡ 0 ∷ 0 ∷ 1 ∷ 1 ∷ 1000 ∷ 0 ∷ [])
     × (latest no_blocks large asides (station 2) ≡ some type_two)
 unfolding after asked latest start_of settings_in head_of broken full_in fields_of in_range address_at ticks_of cut known has sound behind value knows good among
-aside-shown = (refl, refl, refl)
+aside_shown = (refl, refl, refl)
 
 pub taken_no_eight : NoEight large takes
 unfolding NoEight after start_of settings_in head_of broken full_in fields_of in_range address_at ticks_of cut known has sound behind value knows good among
@@ -81,15 +81,15 @@ pub begun_both : Begun (settings 1 0) small_node × Begun (settings 2 0) large_n
 unfolding are_bytes
 begun_both = (begins (settings 1 0) (are_bytes_lem (settings 1 0) refl), begins (settings 2 0) (are_bytes_lem (settings 2 0) refl))
 
-bytes-handed : AllHanded handed
+bytes_handed : AllHanded handed
 unfolding AllHanded are_bytes
-bytes-handed = (are_bytes_lem (many 10) refl, (are_bytes_lem (attributes 2 type_two) refl, (are_bytes_lem (report 0 255 2 1 0 0) refl, tt)))
+bytes_handed = (are_bytes_lem (many 10) refl, (are_bytes_lem (attributes 2 type_two) refl, (are_bytes_lem (report 0 255 2 1 0 0) refl, tt)))
 
 pub met_both : Met small_node (made small_node handed) × Met large_node (made large_node handed)
-met_both = (made-met small_node handed bytes-handed, made-met large_node handed bytes-handed)
+met_both = (made_met small_node handed bytes_handed, made_met large_node handed bytes_handed)
 
-pub same-calls : made_of (made small_node handed) ≡ made_of (made large_node handed)
-same-calls = calls-made small_node large_node handed
+pub same_calls : made_of (made small_node handed) ≡ made_of (made large_node handed)
+same_calls = calls_made small_node large_node handed
 
 pub none_eight : NoEightMade (made large_node handed)
 unfolding NoEightMade made started_with table_of image table_in own_of blank settings_in head_of broken full_in fields_of in_range address_at ticks_of cut known has sound behind value knows good among

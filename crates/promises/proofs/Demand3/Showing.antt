@@ -14,7 +14,7 @@ use Rattle.blocks.specs.Entries.{Entry}
 use Rattle.blocks.specs.Meaning.{Meaning, malformed, aside, shows, meaning, value}
 use Rattle.blocks.specs.Attributes.{absent, valued, behind_with, attributes_from}
 use Rattle.blocks.specs.Levels.{Sub, Fewer}
-use Rattle.blocks.proofs.Fewer.{fewer, values-kept}
+use Rattle.blocks.proofs.Fewer.{fewer, values_kept}
 use Rattle.stations.specs.Stations.{present, attributes_of}
 use Rattle.ways.specs.Choice.{numbers, way_to, steering_to, hop_of}
 use Rattle.controller.specs.State.{State}
@@ -77,9 +77,9 @@ module _ (K : List ℕ) (late : ℕ → Option (List ℕ)) (s : State) (sub : Su
       from b q u false e = absurd (none-ne-some b (sym (none-else a e) ∙ q))
 
   -- Who replies 1 says behind with a type, and nothing else.
-  says-behind : (a : ℕ) → (asked (under K f s) a).reply ≡ 1 → asked (under K f s) a ≡ says_behind (asked (under K f s) a).kind
+  says_behind_lem : (a : ℕ) → (asked (under K f s) a).reply ≡ 1 → asked (under K f s) a ≡ says_behind (asked (under K f s) a).kind
   unfolding asked attributes_by
-  says-behind a h =
+  says_behind_lem a h =
       rw (attributes-dressed f a s.stations) (go (present a s.stations) (late a) (rw (attributes-dressed f a s.stations) at h))
     where
       at : (m : Meaning) → (shown (some (attributes_from m))).reply ≡ 1
@@ -125,7 +125,7 @@ module _ (K : List ℕ) (late : ℕ → Option (List ℕ)) (s : State) (sub : Su
       at b q malformed e n = absurd ((less a b q).fine e)
       at b q (aside u) e n = absurd (n refl)
       at b q (shows xs) e n =
-          let (ys, m, v) = values-kept K s.choice.known sub b (fine a b q) xs e in
+          let (ys, m, v) = values_kept K s.choice.known sub b (fine a b q) xs e in
           rw m (same_valued xs ys v)
 
       go : (o : Option (List ℕ)) → late a ≡ o → ((shown (some (attributes_by K o))).reply ≡ 1 → ⊥)
@@ -166,7 +166,7 @@ module _ (K : List ℕ) (late : ℕ → Option (List ℕ)) (s : State) (sub : Su
     pacer = refl;
     steering = λ a. ap numbers (steering_under a);
     behind = behind_both;
-    says = says-behind;
+    says = says_behind_lem;
     reply = λ a n. (same_asked own a n).reply;
     values = λ a n. (same_asked own a n).values;
   })

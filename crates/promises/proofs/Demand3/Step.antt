@@ -27,7 +27,7 @@ use Rattle.controller.specs.Handling.{acted, gives, hearing, taking, learning, j
 use Rattle.controller.specs.Closing.{purged_if, swept, is_tick}
 use Rattle.controller.specs.Record.{Outcome, refusal, closed, unless_refused, outcome_of}
 use Rattle.promises.specs.Levels.{block_heard, taken_or_aside, newer, latest_now, knowing, dressed, SameResult, attributes_by, under}
-use Rattle.promises.proofs.Demand3.Dress.{dressed_placed, pick_placed, present_dressed, aged-dressed, purged-dressed, given-dressed, same-dressed, placed-dressed}
+use Rattle.promises.proofs.Demand3.Dress.{dressed_placed, pick_placed, present_dressed, aged-dressed, purged-dressed, given-dressed, same_dressed, placed-dressed}
 
 -- The answer x of a node that knows K goes with the answer o of the larger one: the same state but for the attributes, which are those of g; the same report;
 -- the same result but for 24 and 0.
@@ -80,7 +80,7 @@ module _ (K : List ℕ) (f : ℕ → Attributes) where
     state =
         ap (λ (y : Outcome). y.state) e
         ∙ ap (λ (l : List Station). record { choice = knowing K o.state.choice; spans = o.state.spans; stations = l; pacer = o.state.pacer })
-        (same-dressed f g o.state.stations h);
+        (same_dressed f g o.state.stations h);
     report = ap (λ (y : Outcome). y.report) e;
     result = inl (ap (λ (y : Outcome). y.result) e);
   }
@@ -102,9 +102,9 @@ Beside (shows es) (aside u) = ⊥
 Beside (shows es) (shows us) = Unit {0}
 
 -- The latest block where the call was no attribute record of the station.
-same-latest : (b : Bool) (o : Option (List ℕ)) → o ≡ newer (cond b none none) o
-same-latest true o = refl
-same-latest false o = refl
+same_latest : (b : Bool) (o : Option (List ℕ)) → o ≡ newer (cond b none none) o
+same_latest true o = refl
+same_latest false o = refl
 
 -- .. and where it was one that is neither taken nor set aside.
 uncounted : (k : ℕ) (x o : Option (List ℕ)) → taken_or_aside k ≡ false → o ≡ newer (cond (taken_or_aside k) x none) o
@@ -137,7 +137,7 @@ module _ (K : List ℕ) (L : ℕ → Option (List ℕ)) (s : State) (bytes : Lis
       alike K f (next r o) (outcome_of r (block_of bytes) (under K f s)) o
       (ap (unless_refused (under K f s) (is_tick r) (spans_of r)) e
       ∙ unless_under K f (is_tick r) s (spans_of r) (judged s.choice r (block_of bytes) (spans_of r) s.stations))
-      (λ a p. ap (attributes_by K) (rw (p, n a) (same-latest (taken_or_aside o.result) (L a))))
+      (λ a p. ap (attributes_by K) (rw (p, n a) (same_latest (taken_or_aside o.result) (L a))))
 
   -- An attribute record of the station a, heard on the span n.
   module _ (n a : ℕ) where
@@ -150,8 +150,8 @@ module _ (K : List ℕ) (L : ℕ → Option (List ℕ)) (s : State) (bytes : Lis
     g_self : g a ≡ attributes_by K (some (block_of bytes))
     g_self = rw (eq-eqb a a refl)
 
-    g-other : (x : ℕ) → eqb x a ≡ false → f x ≡ g x
-    g-other x e = rw e
+    g_other : (x : ℕ) → eqb x a ≡ false → f x ≡ g x
+    g_other x e = rw e
 
     abbrev ends : ℕ → State → Attributes → Outcome
     ends k u x = closed u false u.spans (gives k (given a x u.stations))
@@ -162,7 +162,7 @@ module _ (K : List ℕ) (L : ℕ → Option (List ℕ)) (s : State) (bytes : Lis
     unfolding latest_now closed
     taken k1 k2 x y e t p =
         let q : ends k1 (under K f s) x ≡ under_o K g (ends k1 s y) =
-        ap (λ (l : List Station). closed (under K f s) false s.spans (gives k1 l)) (given-dressed f g a x y (g_self ∙ e) g-other s.stations)
+        ap (λ (l : List Station). closed (under K f s) false s.spans (gives k1 l)) (given-dressed f g a x y (g_self ∙ e) g_other s.stations)
         ∙ closed-under K g f false s s.spans (gives k1 (given a y s.stations)) in
         let v : Alike K (next r (ends k2 s y)) (ends k1 (under K f s) x) (ends k1 s y) =
         alike K g (next r (ends k2 s y)) (ends k1 (under K f s) x) (ends k1 s y) q (λ z h. rw (h, t)) in
@@ -211,9 +211,9 @@ module _ (K : List ℕ) (L : ℕ → Option (List ℕ)) (s : State) (bytes : Lis
 -- One record.
 module _ (K : List ℕ) (L : ℕ → Option (List ℕ)) (s : State) (bytes : List ℕ) (sub : Sub K s.choice.known)
     (new : (a : ℕ) → present a s.stations ≡ false → L a ≡ none) where
-  absent-new : (a : ℕ) → present a s.stations ≡ false → attributes_by K (L a) ≡ absent
+  absent_new : (a : ℕ) → present a s.stations ≡ false → attributes_by K (L a) ≡ absent
   unfolding attributes_by
-  absent-new a h = rw (new a h)
+  absent_new a h = rw (new a h)
 
   beside : (b : List ℕ) (m m2 : Meaning) → meaning K b ≡ m → meaning s.choice.known b ≡ m2 → Beside m m2
   beside b malformed malformed e q = tt
@@ -241,7 +241,7 @@ module _ (K : List ℕ) (L : ℕ → Option (List ℕ)) (s : State) (bytes : Lis
   step (Heard n p) h =
       other K L s bytes (Heard n p) (λ a. refl)
       (hearing-dressed K (λ (a : ℕ). attributes_by K (L a)) s.choice.ticks n p (acted s.choice.ticks (Heard n p) s.spans) s.stations
-      (absent-new p.address))
+      (absent_new p.address))
   step (Block n a) h =
       block-step K L s bytes n a (meaning s.choice.known (block_of bytes)) refl (meaning K (block_of bytes)) refl
       (beside (block_of bytes) (meaning K (block_of bytes)) (meaning s.choice.known (block_of bytes)) refl refl) h

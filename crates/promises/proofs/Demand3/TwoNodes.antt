@@ -19,7 +19,7 @@ use Rattle.controller.specs.State.{Choice, State, started}
 use Rattle.controller.specs.declared.reading.Reading.TheVariants.{Tick}
 use Rattle.controller.specs.Reading.{count_in}
 use Rattle.controller.specs.Record.{Outcome, outcome_of, ticking}
-use Rattle.controller.proofs.Ticking.{ticking-result}
+use Rattle.controller.proofs.Ticking.{ticking_result}
 use Rattle.controller.specs.Promise.{Begun}
 use Rattle.promises.specs.History.{Call, after, answered, tick_with, spelled_out, after_all, answered_all, start_of, Made, call_of, made_of, calls_of, node_after, Met}
 use Rattle.promises.specs.Levels.{NoEight, latest, no_blocks, knowing, dressed, Levelled, SameAnswer, SameCall, with_level, NoEightMade}
@@ -56,10 +56,10 @@ module _ (c : Choice) (K : List ℕ) (sub : Sub K c.known) where
   unfolding started dressed
   at-one_point h n = levels no_blocks (started c) (λ a p. refl) (λ a b q. absurd (none-ne-some b q)) refl K sub h n
 
-  pub same-answers : (h : List Call) (d : Call) → NoEight (started c) (d ∷ h)
+  pub same_answers : (h : List Call) (d : Call) → NoEight (started c) (d ∷ h)
       → SameAnswer (answered (started (knowing K c)) h d) (answered (started c) h d)
   unfolding started NoEight dressed
-  same-answers h d n =
+  same_answers h d n =
       let q = answers no_blocks (started c) (λ a p. refl) K sub h d (follows no_blocks (started c) (λ a p. refl) K sub h n.1) n.0 in
       record { report = q.report; result = q.result }
 
@@ -74,7 +74,7 @@ module _ (c : Choice) (K : List ℕ) (sub : Sub K c.known) where
       let y : State = after (started c) h in
       let both : NoEight (started c) (t ∷ h) = (tick_no_eight (started c) room enough h, e) in
       let first : (outcome_of Tick [] x).report ≡ (outcome_of Tick [] y).report =
-      ap (λ (o : Outcome). o.report) (sym (tick-outcome room enough x)) ∙ (same-answers h t both).report ∙ ap (λ (o : Outcome). o.report) (tick-outcome room enough y) in
+      ap (λ (o : Outcome). o.report) (sym (tick-outcome room enough x)) ∙ (same_answers h t both).report ∙ ap (λ (o : Outcome). o.report) (tick-outcome room enough y) in
       let rest : (ticking n (outcome_of Tick [] x).state).report ≡ (ticking n (outcome_of Tick [] y).state).report =
       ap (λ (o : Outcome). (ticking n o.state).report) (sym (tick-outcome room enough x))
       ∙ ticks_alike room enough n (t ∷ h) both
@@ -82,10 +82,10 @@ module _ (c : Choice) (K : List ℕ) (sub : Sub K c.known) where
       λ i. first i ++ rest i
 
   -- The same of calls as they are made; in the history that they make the larger refuses no block as malformed.
-  pub same-answers-all : (h : List Call) (d : Call) → NoEight (started c) (spelled_out (d ∷ h))
+  pub same_answers_all : (h : List Call) (d : Call) → NoEight (started c) (spelled_out (d ∷ h))
       → SameAnswer (answered_all (started (knowing K c)) h d) (answered_all (started c) h d)
   unfolding spelled_out NoEight
-  same-answers-all h d n =
+  same_answers_all h d n =
       let x : State = started (knowing K c) in
       let y : State = started c in
       let l : List Call = spelled_out h in
@@ -98,11 +98,11 @@ module _ (c : Choice) (K : List ℕ) (sub : Sub K c.known) where
       record {
         report = ap (λ (o : Outcome). o.report) (told x) ∙ ticks_alike d.room (many-room d is) k l before ∙ ap (λ (o : Outcome). o.report) (sym (told y));
         result =
-            inl (ap (λ (o : Outcome). o.result) (told x) ∙ ticking-result k (after x l) ∙ sym (ticking-result k (after y l))
+            inl (ap (λ (o : Outcome). o.result) (told x) ∙ ticking_result k (after x l) ∙ sym (ticking_result k (after y l))
             ∙ ap (λ (o : Outcome). o.result) (sym (told y)));
       })
       (λ single.
-      rw (answered-one x h d single, answered-one y h d single) (same-answers l d (subst (λ (z : List Call). NoEight y (z ++ l)) (spelled-one d single) n)))
+      rw (answered-one x h d single, answered-one y h d single) (same_answers l d (subst (λ (z : List Call). NoEight y (z ++ l)) (spelled-one d single) n)))
     where
       no_eight_before : (k room : ℕ) (l : List Call) → NoEight (started c) (replicate k (tick_with room) ++ l) → NoEight (started c) l
       no_eight_before zero room l n = n
@@ -145,10 +145,10 @@ module _ (a b : List ℕ) (level : ℕ) (lower : level ≤ (settings_in b).setti
         rest,
       ))
 
-  pub same-latest : (g h : List Made) → made_of g ≡ made_of h → Met large h → NoEightMade h
+  pub same_latest : (g h : List Made) → made_of g ≡ made_of h → Met large h → NoEightMade h
       → (s : ℕ) → latest no_blocks (start_of a) (calls_of g) s ≡ latest no_blocks (start_of b) (calls_of h) s
   unfolding start_of calls_of
-  same-latest g h same met-large n s = rw (same, smaller-start) (latest-by_either c (knows level) sub (calls_of h) (no_eight h met-large n) s)
+  same_latest g h same met-large n s = rw (same, smaller-start) (latest-by_either c (knows level) sub (calls_of h) (no_eight h met-large n) s)
 
   pub nodes_levelled : (g h : List Made) → made_of g ≡ made_of h → Met small g → Met large h → NoEightMade h
       → Levelled (knows level) (latest no_blocks (start_of b) (calls_of h)) (state_of (node_after small g)) (state_of (node_after large h))
@@ -164,7 +164,7 @@ module _ (a b : List ℕ) (level : ℕ) (lower : level ≤ (settings_in b).setti
   calls_alike g h x y same met-small met-large n =
       let u : Outcome = answered_all (started (knowing (knows level) c)) (made_of h) (call_of y) in
       let v : Outcome = answered_all (started c) (made_of h) (call_of y) in
-      let s : SameAnswer u v = same-answers-all c (knows level) sub (made_of h) (call_of y) (no_eight (y ∷ h) met-large n) in
+      let s : SameAnswer u v = same_answers_all c (knows level) sub (made_of h) (call_of y) (no_eight (y ∷ h) met-large n) in
       let e : answered_all (start_of a) (made_of g) (call_of x) ≡ u =
       ap (last_of (start_of a)) same ∙ ap (λ (z : State). answered_all z (made_of h) (call_of y)) smaller-start in
       let p = answered_as a small begun-small g x met-small in

@@ -9,13 +9,13 @@ use lib.Dec.{leb}
 use borrow.Author.Tests.{le-ltb}
 use Rattle.wire.specs.Fields.{address_at, odd_first, Bytes}
 use Rattle.wire.specs.Head.{length_of, body_of, broken}
-use Rattle.wire.proofs.Heads.{right-length}
+use Rattle.wire.proofs.Heads.{right_length}
 use Rattle.controller.specs.declared.reading.Reading.TheVariants.{Block}
 use Rattle.controller.specs.Reading.{reading}
-use Rattle.controller.proofs.Bodies.{block-said, kind-block, read_whole}
+use Rattle.controller.proofs.Bodies.{block-said, kind_block, read_whole}
 use Rattle.blocks.specs.Writing.{weight_bytes, bandwidth_bytes, bytes_at}
 use Rattle.promises.specs.Written.{address_bytes, attribute_record}
-use Rattle.promises.proofs.Roundtrip.ByteLists.{Small, bytes-before, small_bytes}
+use Rattle.promises.proofs.Roundtrip.ByteLists.{Small, bytes_before, small_bytes}
 
 module _ (span a : ℕ) (block : List ℕ) where
   abbrev card : List ℕ
@@ -32,14 +32,14 @@ module _ (span a : ℕ) (block : List ℕ) where
       let e0 : a / 2 ^ 8 * 256 + a % 256 ≡ a = omega arith in
       rw (e4, e3, e2, e1, e0)
 
-  pub attributes-read : length block ≤ 1024 → (own room : ℕ) → span ≤ 1 → odd_first a ≡ false → (a ≡ own → ⊥) → 7 ≤ room
+  pub attributes_read : length block ≤ 1024 → (own room : ℕ) → span ≤ 1 → odd_first a ≡ false → (a ≡ own → ⊥) → 7 ≤ room
       → reading own card room ≡ Block span a
   unfolding reading
-  attributes-read short own room side even foreign enough =
-      let whole : broken card ≡ false = sym (right-length card (omega arith) (omega arith)) ∙ le-ltb 1033 (length_of card) (omega arith) in
+  attributes_read short own room side even foreign enough =
+      let whole : broken card ≡ false = sym (right_length card (omega arith) (omega arith)) ∙ le-ltb 1033 (length_of card) (omega arith) in
       rw (le-ltb room 7 enough)
       (sym (read_whole own card room whole)
-      ∙ sym (kind-block own (body_of card) room 6 refl)
+      ∙ sym (kind_block own (body_of card) room 6 refl)
       ∙ sym (block-said own (body_of card) (omega arith) (omega arith) side (ap odd_first address_back ∙ even) (λ e. foreign (sym address_back ∙ e)))
       ∙ ap (λ (x : ℕ). Block span x) address_back)
 
@@ -47,12 +47,12 @@ module _ (span a : ℕ) (block : List ℕ) where
   pub record_bytes : length block ≤ 1024 → span ≤ 1 → a < 2 ^ 48 → Bytes block → Bytes card
   unfolding Small
   record_bytes short side small bytes =
-      bytes-before (((9 + length block) % 256) ∷ ((9 + length block) / 256) ∷ 6 ∷ 0 ∷ span ∷ address_bytes a) block (omega arith) bytes
+      bytes_before (((9 + length block) % 256) ∷ ((9 + length block) / 256) ∷ 6 ∷ 0 ∷ span ∷ address_bytes a) block (omega arith) bytes
 
 -- What the writer writes is bytes.
-pub written-bytes : (level w0 w1 b0 b1 : ℕ) → w0 < 256 → w1 < 256 → b0 < 65536 → b1 < 65536 → Bytes (bytes_at level w0 w1 b0 b1)
+pub written_bytes : (level w0 w1 b0 b1 : ℕ) → w0 < 256 → w1 < 256 → b0 < 65536 → b1 < 65536 → Bytes (bytes_at level w0 w1 b0 b1)
 unfolding bytes_at Small
-written-bytes level w0 w1 b0 b1 h0 h1 k0 k1 = go (leb 2 level)
+written_bytes level w0 w1 b0 b1 h0 h1 k0 k1 = go (leb 2 level)
   where
     go : (b : Bool) → Bytes (cond b (weight_bytes w0 w1 ++ bandwidth_bytes b0 b1) (weight_bytes w0 w1))
     go true = small_bytes (weight_bytes w0 w1 ++ bandwidth_bytes b0 b1) (omega arith)

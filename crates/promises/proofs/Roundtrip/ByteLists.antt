@@ -10,11 +10,11 @@ unfoldable pub Small : List ℕ → Type 0
 Small [] = Unit {0}
 Small (x ∷ b) = (x < 256) × Small b
 
-pub bytes-before : (b c : List ℕ) → Small b → Bytes c → Bytes (b ++ c)
+pub bytes_before : (b c : List ℕ) → Small b → Bytes c → Bytes (b ++ c)
 unfolding Small
-bytes-before [] c s bytes i = bytes i
-bytes-before (x ∷ b) c s bytes zero = s.0
-bytes-before (x ∷ b) c s bytes (suc i) = bytes-before b c s.1 bytes i
+bytes_before [] c s bytes i = bytes i
+bytes_before (x ∷ b) c s bytes zero = s.0
+bytes_before (x ∷ b) c s bytes (suc i) = bytes_before b c s.1 bytes i
 
 pub small_bytes : (b : List ℕ) → Small b → Bytes b
-small_bytes b s = subst Bytes (append-nil b) (bytes-before b [] s (λ i. omega arith))
+small_bytes b s = subst Bytes (append-nil b) (bytes_before b [] s (λ i. omega arith))

@@ -20,7 +20,7 @@ use Rattle.stations.specs.Hearing.{Placed}
 use Rattle.stations.specs.Table.{Each}
 use Rattle.stations.specs.Kept.{StationKept, Unheld}
 use Rattle.stations.proofs.Lists.{each_map, each_both}
-use Rattle.stations.proofs.Sifting.{sifted-same}
+use Rattle.stations.proofs.Sifting.{sifted_same}
 use Rattle.stations.proofs.Renewing.{renewed-all}
 use Rattle.stations.proofs.Keeping.{unheld_given}
 use Rattle.controller.specs.declared.reading.Reading.TheVariants.{Block}
@@ -48,7 +48,7 @@ module _ (l : List Station) (all : EachPlaced l) where
   purged-still : (ringlet : ℕ) → Unheld ringlet l → purged ringlet l ≡ l
   unfolding purged
   purged-still ringlet unheld =
-      sifted-same (unpurged ringlet) (with_hop ringlet 0) l
+      sifted_same (unpurged ringlet) (with_hop ringlet 0) l
       (each_both _ (λ (s : Station). placed_somewhere s ≡ true) _
       (λ s none somewhere. let same = cleared_still ringlet s none in (ap placed_somewhere same ∙ somewhere, same)) l unheld all)
 
@@ -104,10 +104,10 @@ module _ (s : State) (k : StateKept s) where
   taking-still a (shows es) = given-still 0 a (attributes_from (shows es))
 
   -- "After 0 and 20 to 24 the closing steps run": after an attribute record they change nothing.
-  pub block-closes-nothing : (n a : ℕ) (b : List ℕ)
+  pub block_closes_nothing : (n a : ℕ) (b : List ℕ)
       → outcome_of (Block n a) b s ≡ with_stations s (learning s.choice.ticks n a (meaning s.choice.known b) s.spans s.stations)
   unfolding outcome_of acted judged learning
-  block-closes-nothing n a b = go (down s.choice.ticks (cond (eqb n 0) s.spans.west s.spans.east)) (present a s.stations)
+  block_closes_nothing n a b = go (down s.choice.ticks (cond (eqb n 0) s.spans.west s.spans.east)) (present a s.stations)
     where
       m : Meaning
       m = meaning s.choice.known b

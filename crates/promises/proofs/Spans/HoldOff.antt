@@ -18,7 +18,7 @@ use Rattle.controller.specs.State.{Choice, State}
 use Rattle.promises.specs.History.{Call, after}
 use Rattle.promises.specs.Spans.{own_in, ticks_in, read_as, is_link, ticks_taken, link_taken, span_after, request_on, automatic_on}
 use Rattle.promises.proofs.Demand2.AfterKept.{choice-after}
-use Rattle.promises.proofs.Spans.Links.{link-step, over-calls}
+use Rattle.promises.proofs.Spans.Links.{link-step, over_calls}
 
 -- What is requested of a link that was good, k ticks after its hold-off began, with y stored; l are all the calls.
 module _ (s : State) (n : ℕ) (l : List Call) {y k : ℕ} (held : HeldOff (ticks_in s) good y k (span_after n s l)) where
@@ -57,7 +57,7 @@ module _ (s : State) (n : ℕ) (side : n ≤ 1) where
   pub goes_on_lem : (f x j : ℕ) (g : List Call) → HeldOff (ticks_in s) f x j (span_after n s g) → (h : List Call) → link_taken (own_in s) n h ≡ false
       → HeldOff (ticks_in s) f x (ticks_taken (own_in s) h + j) (span_after n s (h ++ g))
   goes_on_lem f x j g held =
-      over-calls s n side (λ (k z : ℕ) (u : Span). HeldOff (ticks_in s) f x (k + j) u)
+      over_calls s n side (λ (k z : ℕ) (u : Span). HeldOff (ticks_in s) f x (k + j) u)
       (λ k z u v same p. held_same (ticks_in s) f x (k + j) u p v same)
       (λ k z u p. at (ticked (ticks_in s) u) (omega arith) (held-ticked (ticks_in s) f x (k + j) u p)) (is_link n)
       (λ k z status u fine p. absurd (true≢false (sym (eq-eqb n n refl) ∙ fine))) g x (at (span_after n s g) (omega arith) held)

@@ -22,18 +22,18 @@ use Rattle.promises.specs.History.{Call, after}
 use Rattle.promises.specs.Spans.{own_in, ticks_in, read_as, is_keepalive, ticks_quiet, up_to, span_after, automatic_on}
 use Rattle.promises.proofs.Demand2.AfterKept.{choice-after}
 use Rattle.promises.proofs.Spans.Readings.{Sided, sided, same_span}
-use Rattle.promises.proofs.Spans.OneRecord.{span-call, touched, found_back, cabled_touched, ticked_both}
+use Rattle.promises.proofs.Spans.OneRecord.{span_call, touched, found_back, cabled_touched, ticked_both}
 
 -- A link record and the WTR step leave the age.
 abbrev Aged : ℕ → Span → Type 0
 Aged a u = u.age ≡ a
 
-linked-age : (t : Ticks) (status : ℕ) (s : Span) → Aged s.age (linked t status s)
-linked-age t status s = link-alone (Aged s.age) t s status (λ stored force left. refl)
+linked_age : (t : Ticks) (status : ℕ) (s : Span) → Aged s.age (linked t status s)
+linked_age t status s = link-alone (Aged s.age) t s status (λ stored force left. refl)
 
-waited-age : (t : Ticks) (was : ℕ) (s : Span) → Aged s.age (waited t was s)
+waited_age : (t : Ticks) (was : ℕ) (s : Span) → Aged s.age (waited t was s)
 unfolding waited
-waited-age t was s =
+waited_age t was s =
     chosen (Aged s.age) (eqb was 0)
     (λ h. chosen (Aged s.age) (eqb (automatic t s) 0) (λ i. refl) (λ i. refl))
     (λ h. chosen (Aged s.age) (eqb (automatic t s) 0) (λ i. refl) (λ i. refl))
@@ -67,14 +67,14 @@ module _ (n : ℕ) (side : n ≤ 1) (t : Ticks) (y : Spans) (a : ℕ) (is : (spa
   abbrev next : Reading → ℕ
   next r = cond (is_keepalive n r) 0 (cond (is_tick r) (suc a) a)
 
-  acted-age : (r : Reading) → Sided r → (span_of n (acted t r y)).age ≡ up_to t.keepalive (next r)
+  acted_age : (r : Reading) → Sided r → (span_of n (acted t r y)).age ≡ up_to t.keepalive (next r)
   unfolding acted ticked
-  acted-age (Refused i) low = is
-  acted-age Tick low =
+  acted_age (Refused i) low = is
+  acted_age Tick low =
       ap (λ (z : Span). z.age) (ticked_both t n y) ∙ ap (older t.keepalive) is ∙ older_up_to t.keepalive a
-  acted-age (Link m status) low =
-      touched (Aged (up_to t.keepalive a)) (linked t status) m n y (λ e. linked-age t status (span_of n y) ∙ is) is
-  acted-age (Keepalive m) low = go (eqb m n) refl
+  acted_age (Link m status) low =
+      touched (Aged (up_to t.keepalive a)) (linked t status) m n y (λ e. linked_age t status (span_of n y) ∙ is) is
+  acted_age (Keepalive m) low = go (eqb m n) refl
     where
       go : (b : Bool) → eqb m n ≡ b → (span_of n (acted t (Keepalive m) y)).age ≡ up_to t.keepalive (cond b 0 a)
       go true p =
@@ -83,14 +83,14 @@ module _ (n : ℕ) (side : n ≤ 1) (t : Ticks) (y : Spans) (a : ℕ) (is : (spa
           ∙ zero_up_to t.keepalive
       go false p =
           touched (Aged (up_to t.keepalive a)) alive m n y (λ e. absurd (true≢false (sym (eq-eqb m n (same_span m n low side e)) ∙ p))) is
-  acted-age (Operator m request) low = touched (Aged (up_to t.keepalive a)) (asked request) m n y (λ e. is) is
-  acted-age (Heard m p) low = cabled_touched (Aged (up_to t.keepalive a)) m n p y (λ mark. is) is
-  acted-age (Block m i) low = is
+  acted_age (Operator m request) low = touched (Aged (up_to t.keepalive a)) (asked request) m n y (λ e. is) is
+  acted_age (Heard m p) low = cabled_touched (Aged (up_to t.keepalive a)) m n p y (λ mark. is) is
+  acted_age (Block m i) low = is
 
 -- "SF if (..) the age has reached the setting".
-aged-is_sf : (t : Ticks) (u : Span) → t.keepalive ≤ u.age → automatic t u ≡ SF
+aged_is_sf : (t : Ticks) (u : Span) → t.keepalive ≤ u.age → automatic t u ≡ SF
 unfolding automatic
-aged-is_sf t u high = rw (le-leb t.keepalive u.age high) (go (eqb u.force failed))
+aged_is_sf t u high = rw (le-leb t.keepalive u.age high) (go (eqb u.force failed))
   where
     go : (b : Bool) → cond (b || true || u.cable) SF (cond (eqb u.force degraded) SD none) ≡ SF
     go true = refl
@@ -103,9 +103,9 @@ module _ (s : State) (n : ℕ) (side : n ≤ 1) (g : List Call) (a : ℕ) (first
   age_counts [] = first
   age_counts (c ∷ h) =
       let y : Spans = (after s (h ++ g)).spans in
-      ap (λ (z : Span). z.age) (span-call s (h ++ g) c n)
-      ∙ waited-age (ticks_in s) (automatic (ticks_in s) (span_of n y)) (span_of n (acted (ticks_in s) (read_as (own_in s) c) y))
-      ∙ acted-age n side (ticks_in s) y (ticks_quiet (own_in s) n a h) (age_counts h) (read_as (own_in s) c) (sided (own_in s) c.bytes c.room)
+      ap (λ (z : Span). z.age) (span_call s (h ++ g) c n)
+      ∙ waited_age (ticks_in s) (automatic (ticks_in s) (span_of n y)) (span_of n (acted (ticks_in s) (read_as (own_in s) c) y))
+      ∙ acted_age n side (ticks_in s) y (ticks_quiet (own_in s) n a h) (age_counts h) (read_as (own_in s) c) (sided (own_in s) c.bytes c.room)
 
   -- Keepalives coming: fewer ticks since the latest than the setting ..
   pub keepalives_coming : (h : List Call) → ticks_quiet (own_in s) n a h < (ticks_in s).keepalive → (span_after n s (h ++ g)).age < (ticks_in s).keepalive
@@ -118,4 +118,4 @@ module _ (s : State) (n : ℕ) (side : n ≤ 1) (g : List Call) (a : ℕ) (first
   silence_is_sf h high =
       let is : (span_after n s (h ++ g)).age ≡ (ticks_in s).keepalive = age_counts h ∙ rw (le-ltb (ticks_quiet (own_in s) n a h) (ticks_in s).keepalive high) refl in
       ap (λ (k : Choice). automatic k.ticks (span_after n s (h ++ g))) (choice-after s (h ++ g))
-      ∙ aged-is_sf (ticks_in s) (span_after n s (h ++ g)) (omega arith)
+      ∙ aged_is_sf (ticks_in s) (span_after n s (h ++ g)) (omega arith)

@@ -21,7 +21,7 @@ use Rattle.promises.specs.History.{Call, after}
 use Rattle.promises.specs.Spans.{own_in, ticks_in, read_as, some_taken, ticks_taken, span_after}
 use Rattle.promises.specs.HoldOff.{told_by, status_told}
 use Rattle.promises.proofs.Spans.Readings.{Sided, sided, same_span}
-use Rattle.promises.proofs.Spans.OneRecord.{span-call, touched, found_back, ticked_both}
+use Rattle.promises.proofs.Spans.OneRecord.{span_call, touched, found_back, ticked_both}
 
 -- What a record's handler makes of span n; `rule` is what a link record of it does.
 abbrev pub handled : (Ticks → ℕ → Span → Span) → Ticks → ℕ → Reading → Span → Span
@@ -43,14 +43,14 @@ module _ (n : ℕ) (side : n ≤ 1) (t : Ticks) (y : Spans) where
       go false e =
           touched (λ (v : Span). v ≡ span_of n y) f m n y (λ i. absurd (true≢false (sym (eq-eqb m n (same_span m n low side i)) ∙ e))) refl
 
-  span-handled : (r : Reading) → Sided r → span_of n (acted t r y) ≡ handled linked t n r (span_of n y)
+  span_handled : (r : Reading) → Sided r → span_of n (acted t r y) ≡ handled linked t n r (span_of n y)
   unfolding acted cabled
-  span-handled (Refused k) low = refl
-  span-handled Tick low = ticked_both t n y
-  span-handled (Link m status) low = touch (linked t status) m low
-  span-handled (Keepalive m) low = touch alive m low
-  span-handled (Operator m request) low = touch (asked request) m low
-  span-handled (Heard m p) low = go (eqb p.hop 1)
+  span_handled (Refused k) low = refl
+  span_handled Tick low = ticked_both t n y
+  span_handled (Link m status) low = touch (linked t status) m low
+  span_handled (Keepalive m) low = touch alive m low
+  span_handled (Operator m request) low = touch (asked request) m low
+  span_handled (Heard m p) low = go (eqb p.hop 1)
     where
       f : Span → Span
       f = marked (not (eqb p.ringlet m))
@@ -58,17 +58,17 @@ module _ (n : ℕ) (side : n ≤ 1) (t : Ticks) (y : Spans) where
       go : (b : Bool) → span_of n (cond b (with_span m (f (span_of m y)) y) y) ≡ cond (b && eqb m n) (f (span_of n y)) (span_of n y)
       go true = touch f m low
       go false = refl
-  span-handled (Block m a) low = refl
+  span_handled (Block m a) low = refl
 
 -- A record at the end of a history, as span n sees it.
-pub span-step : (s : State) (n : ℕ) → n ≤ 1 → (h : List Call) (c : Call)
+pub span_step : (s : State) (n : ℕ) → n ≤ 1 → (h : List Call) (c : Call)
     → let u = span_after n s h in
     span_after n s (c ∷ h) ≡ waited (ticks_in s) (automatic (ticks_in s) u) (handled linked (ticks_in s) n (read_as (own_in s) c) u)
-span-step s n side h c =
+span_step s n side h c =
     let u : Span = span_after n s h in
-    span-call s h c n
+    span_call s h c n
     ∙ ap (waited (ticks_in s) (automatic (ticks_in s) u))
-    (span-handled n side (ticks_in s) (after s h).spans (read_as (own_in s) c) (sided (own_in s) c.bytes c.room))
+    (span_handled n side (ticks_in s) (after s h).spans (read_as (own_in s) c) (sided (own_in s) c.bytes c.room))
 
 -- A link record of the span: what the rule makes of its link stays.
 pub link-step : (s : State) (n : ℕ) → n ≤ 1 → (h : List Call) (c : Call) (x : ℕ) → read_as (own_in s) c ≡ Link n x
@@ -78,7 +78,7 @@ link-step s n side h c x is =
     let u : Span = span_after n s h in
     let told : handled linked t n (Link n x) u ≡ linked t x u = rw (eq-eqb n n refl) refl in
     subst (SameLink (linked t x u))
-    (sym (span-step s n side h c ∙ ap (λ (r : Reading). waited t (automatic t u) (handled linked t n r u)) is ∙ ap (waited t (automatic t u)) told))
+    (sym (span_step s n side h c ∙ ap (λ (r : Reading). waited t (automatic t u) (handled linked t n r u)) is ∙ ap (waited t (automatic t u)) told))
     (waited-link t (automatic t u) (linked t x u))
 
 -- P is of a number of ticks, of the status told latest, and of a span, of which it sees the link alone.
@@ -108,20 +108,20 @@ module _ (n : ℕ) (t : Ticks) (P : ℕ → ℕ → Span → Type 0) (same : OfL
 module _ (s : State) (n : ℕ) (side : n ≤ 1) (P : ℕ → ℕ → Span → Type 0) (same : OfLink P)
     (ticks : (k x : ℕ) (u : Span) → P k x u → P (suc k) x (ticked (ticks_in s) u)) (bad : Reading → Bool)
     (links : (k x status : ℕ) (u : Span) → bad (Link n status) ≡ false → P k x u → P k status (linked (ticks_in s) status u)) where
-  pub over-calls : (g : List Call) (x : ℕ) → P 0 x (span_after n s g) → (h : List Call) → some_taken (own_in s) bad h ≡ false
+  pub over_calls : (g : List Call) (x : ℕ) → P 0 x (span_after n s g) → (h : List Call) → some_taken (own_in s) bad h ≡ false
       → P (ticks_taken (own_in s) h) (status_told (own_in s) n x h) (span_after n s (h ++ g))
   unfolding some_taken ticks_taken status_told
-  over-calls g x first [] fine = first
-  over-calls g x first (d ∷ h) fine =
+  over_calls g x first [] fine = first
+  over_calls g x first (d ∷ h) fine =
       let t : Ticks = ticks_in s in
       let r : Reading = read_as (own_in s) d in
       let u : Span = span_after n s (h ++ g) in
       let k : ℕ = ticks_taken (own_in s) h in
       let z : ℕ = status_told (own_in s) n x h in
       let (now, rest) = neither (bad r) (some_taken (own_in s) bad h) fine in
-      let before : P k z u = over-calls g x first h rest in
+      let before : P k z u = over_calls g x first h rest in
       let made : P (cond (is_tick r) (suc k) k) (told_by n r z) (handled linked t n r u) =
       handled-link n t P same ticks r k z u (λ status is. links k z status u (subst (λ (q : Reading). bad q ≡ false) is now) before) before in
-      subst (P (cond (is_tick r) (suc k) k) (told_by n r z)) (sym (span-step s n side (h ++ g) d))
+      subst (P (cond (is_tick r) (suc k) k) (told_by n r z)) (sym (span_step s n side (h ++ g) d))
       (same (cond (is_tick r) (suc k) k) (told_by n r z) (handled linked t n r u) (waited t (automatic t u) (handled linked t n r u))
       (waited-link t (automatic t u) (handled linked t n r u)) made)

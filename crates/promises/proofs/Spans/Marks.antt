@@ -29,20 +29,20 @@ use Rattle.controller.specs.Record.{Outcome, refuses, unless_refused, outcome_of
 use Rattle.controller.specs.Node.{Node, Answer, settings_of, state_of, answer_of}
 use Rattle.controller.specs.Kept.{StateKept, Kept}
 use Rattle.controller.specs.Promise.{Recorded}
-use Rattle.controller.proofs.Nodes.{refused-same}
+use Rattle.controller.proofs.Nodes.{refused_same}
 use Rattle.controller.proofs.Reports.{over_none}
 use Rattle.controller.proofs.Manys.{other_event}
 use Rattle.promises.specs.Marks.{marked_on, mark_after, HandlerLeaves, OnlyMark}
-use Rattle.promises.proofs.Demand1.Results.{given, result_of, result-is, recorded_result}
+use Rattle.promises.proofs.Demand1.Results.{given, result_of, result_is, recorded_result}
 use Rattle.promises.proofs.Demand2.Spelling.{outcomes-one}
 use Rattle.promises.specs.Quiet.{with_stations}
-use Rattle.promises.proofs.Roundtrip.Quiet.{block-closes-nothing}
+use Rattle.promises.proofs.Roundtrip.Quiet.{block_closes_nothing}
 use Rattle.promises.proofs.Spans.Readings.{Sided, sided}
 
 -- (a), told as a change of the mark alone.
-cabled-is : (n : ℕ) (p : Report) (x : Spans) → cabled n p x ≡ marked_on n (mark_after n p x) x
+cabled_is : (n : ℕ) (p : Report) (x : Spans) → cabled n p x ≡ marked_on n (mark_after n p x) x
 unfolding cabled
-cabled-is n p x = go (eqb p.hop 1) (eqb n 0)
+cabled_is n p x = go (eqb p.hop 1) (eqb n 0)
   where
     mark : Bool
     mark = not (eqb p.ringlet n)
@@ -65,9 +65,9 @@ module _ (l : List Station) where
   placed_same none p = λ high. absurd (omega arith)
   placed_same (some stored) p = chosen Unplaced (ltb 128 (distance p.sequence stored)) (λ h high. refl) (λ h high. absurd (omega arith))
 
-  hearing-same : (t : Ticks) (n : ℕ) (p : Report) (x : Spans) → Unplaced (hearing t n p x l)
+  hearing_same : (t : Ticks) (n : ℕ) (p : Report) (x : Spans) → Unplaced (hearing t n p x l)
   unfolding hearing placed
-  hearing-same t n p x =
+  hearing_same t n p x =
       chosen Unplaced (eqb p.ringlet n)
       (λ h. chosen Unplaced (down t (span_of n x)) (λ d high. refl) (λ d. placed_same (sequence_of p.address l) p)) (λ h high. refl)
 
@@ -108,11 +108,11 @@ module _ (s : State) (b : List ℕ) where
   report-leaves n p high =
       let k : ℕ = (outcome_of (Heard n p) b s).result in
       let x : Spans = marked_on n (mark_after n p s.spans) s.spans in
-      let is : cabled n p s.spans ≡ x = cabled-is n p s.spans in
+      let is : cabled n p s.spans ≡ x = cabled_is n p s.spans in
       let result : k ≡ (hearing t n p x s.stations).result =
       result_of s b (Heard n p) ∙ ap (λ (y : Spans). (hearing t n p y s.stations).result) is in
       let same : hearing t n p x s.stations ≡ gives (hearing t n p x s.stations).result s.stations =
-      hearing-same s.stations t n p x (omega (arith, result, high)) in
+      hearing_same s.stations t n p x (omega (arith, result, high)) in
       leaves (Heard n p) k x high refl is (same ∙ ap (λ (i : ℕ). gives i s.stations) (sym result))
 
   block-leaves : (n a : ℕ) → 20 ≤ (outcome_of (Block n a) b s).result → (outcome_of (Block n a) b s).result ≤ 22
@@ -141,7 +141,7 @@ module _ (s : State) (b : List ℕ) (room : ℕ) where
       → OnlyMark s (block_of b) (outcomes s b room).result (reading s.choice.address b room)
   only_mark =
       let r : Reading = reading s.choice.address b room in
-      let same : (outcomes s b room).result ≡ (outcome_of r (block_of b) s).result = result-is s b room ∙ sym (result_of s (block_of b) r) in
+      let same : (outcomes s b room).result ≡ (outcome_of r (block_of b) s).result = result_is s b room ∙ sym (result_of s (block_of b) r) in
       rw same (only_mark_of s (block_of b) r (sided s.choice.address b room))
 
   -- "for kind 6 result 21 (span down, nothing else done)": not even the closing steps find anything, in a state that is kept.
@@ -154,7 +154,7 @@ module _ (s : State) (b : List ℕ) (room : ℕ) where
       outcomes-one (record { bytes = b; room = room }) s single ∙ ap (λ (r : Reading). outcome_of r (block_of b) s) is in
       let down : (outcome_of (Block n a) (block_of b) s).result ≡ 21 = ap (λ (o : Outcome). o.result) (sym e) ∙ result in
       let same = (block-leaves s (block_of b) n a (omega (arith, down)) (omega (arith, down))).1.stations in
-      e ∙ block-closes-nothing s k n a (block_of b) ∙ ap (with_stations s) same
+      e ∙ block_closes_nothing s k n a (block_of b) ∙ ap (with_stations s) same
 
 -- Of a call that met its contract.
 module _ {n : Node} {b old new : List ℕ} {r : Answer} (h : Recorded n b old new r) where
@@ -169,4 +169,4 @@ module _ {n : Node} {b old new : List ℕ} {r : Answer} (h : Recorded n b old ne
   recorded_block-down k m a is result =
       let same : outcomes (state_of n) b (length old) ≡ refuses 21 (state_of n) =
       block-down (state_of n) b (length old) k.state m a is (sym (recorded_result h) ∙ result) in
-      (h.is ∙ ap (answer_of n) same ∙ refused-same n 21 k, h.content ∙ ap (λ (o : Outcome). over o.report old) same ∙ sym (over_none old))
+      (h.is ∙ ap (answer_of n) same ∙ refused_same n 21 k, h.content ∙ ap (λ (o : Outcome). over o.report old) same ∙ sym (over_none old))

@@ -23,13 +23,13 @@ use Rattle.promises.specs.Marks.{OnlyMark}
 use Rattle.promises.specs.Drilled.{calls_for}
 use Rattle.promises.specs.Examples.{address, station, tick, link, keepalive, report, attributes, settings, ticks, swings}
 use Rattle.promises.specs.Possible.{all_bytes}
-use Rattle.promises.proofs.Demand2.Possible.{all-bytes}
+use Rattle.promises.proofs.Demand2.Possible.{all_bytes_lem}
 use Rattle.promises.proofs.Spans.HoldOff.{idle_meanwhile, failed-then}
 use Rattle.promises.proofs.Spans.Keepalives.{keepalives_coming, silence_is_sf}
 use Rattle.promises.proofs.Spans.Swinging.{idle_before, sd_then}
 use Rattle.promises.proofs.Spans.Purging.{started-swept}
-use Rattle.promises.proofs.Spans.Beneath.{as_if_not-come}
-use Rattle.promises.proofs.Spans.Running.{wtr-runs_beneath}
+use Rattle.promises.proofs.Spans.Beneath.{as_if_not_come}
+use Rattle.promises.proofs.Spans.Running.{wtr_runs_beneath}
 use Rattle.promises.proofs.Spans.Rising.{tick_never_lowers}
 use Rattle.promises.proofs.Spans.Marks.{only_mark}
 
@@ -42,8 +42,8 @@ node wtr holdoff = record {
 }
 
 -- Its times are in their ranges.
-pub ticks-met : (holdoff : ℕ) → holdoff ≤ 200 → TicksKept (node 0 holdoff).ticks
-ticks-met holdoff low = record {
+pub ticks_met : (holdoff : ℕ) → holdoff ≤ 200 → TicksKept (node 0 holdoff).ticks
+ticks_met holdoff low = record {
   wtr = omega arith;
   holdoff = low;
   keepalive_low = omega arith;
@@ -196,7 +196,7 @@ goes = refl
 pub ms_met : (after waits (call (operator 0 none) ∷ (meanwhile ++ (call (operator 0 MS) ∷ earlier)))).spans ≡ (after waits (meanwhile ++ earlier)).spans
 unfolding started after some_taken address_at
 ms_met =
-    (as_if_not-come 0 waits (started-swept (node 10000 0)) earlier (call (operator 0 MS)) meanwhile (call (operator 0 none)) MS comes goes (omega arith) refl refl
+    (as_if_not_come 0 waits (started-swept (node 10000 0)) earlier (call (operator 0 MS)) meanwhile (call (operator 0 none)) MS comes goes (omega arith) refl refl
     ).0
 
 -- No automatic request at any point, so 9,997 ticks are left.
@@ -204,14 +204,14 @@ undisturbed : Always (Unrequested 0 waits earlier) (call (operator 0 none) ∷ (
 unfolding started Always after address_at
 undisturbed = (refl, (refl, (refl, (refl, (refl, (refl, refl))))))
 
-pub wtr-met : (span_after 0 waits ((call (operator 0 none) ∷ (meanwhile ++ (call (operator 0 MS) ∷ []))) ++ earlier)).wtr ≡ 9997
+pub wtr_met : (span_after 0 waits ((call (operator 0 none) ∷ (meanwhile ++ (call (operator 0 MS) ∷ []))) ++ earlier)).wtr ≡ 9997
 unfolding started after ticks_taken address_at
-wtr-met = wtr-runs_beneath waits 0 earlier (call (operator 0 MS)) meanwhile (call (operator 0 none)) MS comes goes undisturbed
+wtr_met = wtr_runs_beneath waits 0 earlier (call (operator 0 MS)) meanwhile (call (operator 0 none)) MS comes goes undisturbed
 
 -- The tick that ends a hold-off raises the automatic request from none to SF.
-bytes-met : AllBytes (calls_for (link 0 failed ∷ ticks 9))
+bytes_met : AllBytes (calls_for (link 0 failed ∷ ticks 9))
 unfolding all_bytes ticks
-bytes-met = all-bytes (calls_for (link 0 failed ∷ ticks 9)) refl
+bytes_met = all_bytes_lem (calls_for (link 0 failed ∷ ticks 9)) refl
 
 ticking : read_as (station 1) (call tick) ≡ Tick
 unfolding reading
@@ -219,7 +219,7 @@ ticking = refl
 
 pub rising_met : automatic_on 0 (after (started (node 0 10)) (calls_for (link 0 failed ∷ ticks 9)))
     ≤ automatic_on 0 (after (started (node 0 10)) (call tick ∷ calls_for (link 0 failed ∷ ticks 9)))
-rising_met = tick_never_lowers (node 0 10) (ticks-met 10 (omega arith)) (calls_for (link 0 failed ∷ ticks 9)) bytes-met (call tick) ticking 0
+rising_met = tick_never_lowers (node 0 10) (ticks_met 10 (omega arith)) (calls_for (link 0 failed ∷ ticks 9)) bytes_met (call tick) ticking 0
 
 pub rising_is : (automatic_on 0 (after (started (node 0 10)) (calls_for (link 0 failed ∷ ticks 9))) ≡ none)
     × (automatic_on 0 (after (started (node 0 10)) (call tick ∷ calls_for (link 0 failed ∷ ticks 9))) ≡ SF)

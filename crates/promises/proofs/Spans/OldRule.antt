@@ -17,9 +17,9 @@ use Rattle.promises.specs.Spans.{own_in, ticks_in, read_as, some_taken, ticks_ta
 use Rattle.promises.specs.HoldOff.{as_good_taken, SwitchesInTime}
 use Rattle.promises.specs.Drilled.{calls_for}
 use Rattle.promises.specs.Examples.{station, link, ticks}
-use Rattle.promises.proofs.Spans.Links.{handled, span-step}
+use Rattle.promises.proofs.Spans.Links.{handled, span_step}
 use Rattle.promises.proofs.Spans.Swinging.{switches_in_time}
-use Rattle.promises.proofs.Spans.MeetsSpans.{node, ticks-met, call, held, failing}
+use Rattle.promises.proofs.Spans.MeetsSpans.{node, ticks_met, call, held, failing}
 
 -- 01 said: "If it is worse, hold-off starts anew; with a setting of 0 it comes into force at once." `worsened` as it was ..
 abbrev pub worsened_anew : Ticks → ℕ → Span → Span
@@ -49,7 +49,7 @@ unfolding from after
 by_the_rules s n side [] = refl
 by_the_rules s n side (c ∷ h) =
     ap (λ (v : Span). waited (ticks_in s) (automatic (ticks_in s) v) (handled linked (ticks_in s) n (read_as (own_in s) c) v)) (by_the_rules s n side h)
-    ∙ sym (span-step s n side h c)
+    ∙ sym (span_step s n side h c)
 
 -- With 3 steps: failed, degraded after 20 ticks, and 20 ticks more.
 abbrev meanwhile : List Call
@@ -72,13 +72,13 @@ pub old_rule_fails : SwitchesInTime (span_by anew) → ⊥
 unfolding started from AllBytes
 old_rule_fails all =
     let late : good < (span_by anew 0 held (meanwhile ++ (call (link 0 failed) ∷ []))).force =
-    all (node 0 30) (ticks-met 30 (omega arith)) 0 (omega arith) [] tt (call (link 0 failed)) failed failing (omega arith) meanwhile only_worse (omega (arith, forty)) in
+    all (node 0 30) (ticks_met 30 (omega arith)) 0 (omega arith) [] tt (call (link 0 failed)) failed failing (omega arith) meanwhile only_worse (omega (arith, forty)) in
     omega (arith, still-good)
 
 pub new_rule_holds : good < (span_after 0 held (meanwhile ++ (call (link 0 failed) ∷ []))).force
 unfolding started after AllBytes
 new_rule_holds =
-    switches_in_time (node 0 30) (ticks-met 30 (omega arith)) 0 (omega arith) [] tt (call (link 0 failed)) failed failing (omega arith) meanwhile only_worse
+    switches_in_time (node 0 30) (ticks_met 30 (omega arith)) 0 (omega arith) [] tt (call (link 0 failed)) failed failing (omega arith) meanwhile only_worse
     (omega (arith, forty))
 
 -- "so the span never switches": degraded and failed every 20 ms, however often.

@@ -47,15 +47,15 @@ module _ (s : State) (b : List ℕ) where
   spans_of_lem (Block n a) = stays (learning ticks n a (meaning s.choice.known b) s.spans s.stations)
 
   -- Kinds 1 to 4 are taken as soon as they are read.
-  pub read-is-taken : (r : Reading) → is_tick r || leaves_table r ≡ true → (outcome_of r b s).result ≡ 0
+  pub read_is_taken : (r : Reading) → is_tick r || leaves_table r ≡ true → (outcome_of r b s).result ≡ 0
   unfolding outcome_of acted judged closed
-  read-is-taken (Refused k) h = absurd (false≢true h)
-  read-is-taken Tick h = refl
-  read-is-taken (Link n status) h = refl
-  read-is-taken (Keepalive n) h = refl
-  read-is-taken (Operator n request) h = refl
-  read-is-taken (Heard n p) h = absurd (false≢true h)
-  read-is-taken (Block n a) h = absurd (false≢true h)
+  read_is_taken (Refused k) h = absurd (false≢true h)
+  read_is_taken Tick h = refl
+  read_is_taken (Link n status) h = refl
+  read_is_taken (Keepalive n) h = refl
+  read_is_taken (Operator n request) h = refl
+  read_is_taken (Heard n p) h = absurd (false≢true h)
+  read_is_taken (Block n a) h = absurd (false≢true h)
 
 -- A record at the end of a history: the span n before it, what its handler made of it, and the WTR step.
 module _ (s : State) (h : List Call) (c : Call) where
@@ -71,10 +71,10 @@ module _ (s : State) (h : List Call) (c : Call) where
       spans_of_lem (after s h) (block_of c.bytes) (read_as (after s h).choice.address c)
       ∙ ap (λ (k : Choice). settled k.ticks (after s h).spans (acted k.ticks (read_as k.address c) (after s h).spans)) (choice-after s h)
 
-  pub span-call : (n : ℕ)
+  pub span_call : (n : ℕ)
       → span_after n s (c ∷ h) ≡ waited t (automatic t (span_after n s h)) (span_of n (acted t r (after s h).spans))
   unfolding settled
-  span-call n = ap (span_of n) spans-call ∙ go (eqb n 0)
+  span_call n = ap (span_of n) spans-call ∙ go (eqb n 0)
     where
       x : Spans
       x = acted t r (after s h).spans

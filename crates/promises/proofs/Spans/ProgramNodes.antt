@@ -29,11 +29,11 @@ use Rattle.promises.proofs.Demand2.AfterKept.{choice-after}
 use Rattle.promises.proofs.Demand2.Spelling.{spelled_both, spelled-one, spelled-many, many-room, no_tick-one, of_call}
 use Rattle.promises.proofs.Demand2.Coming.{state-after, ruled}
 use Rattle.promises.proofs.Spans.HoldOff.{held_off, idle_meanwhile, failed-then}
-use Rattle.promises.proofs.Spans.Swinging.{runs_on, switches, worse-requests}
+use Rattle.promises.proofs.Spans.Swinging.{runs_on, switches, worse_requests}
 use Rattle.promises.proofs.Spans.Purging.{started-swept}
-use Rattle.promises.proofs.Spans.Beneath.{same_beneath, as_if_not-come}
-use Rattle.promises.proofs.Spans.Running.{wtr-runs-on}
-use Rattle.promises.proofs.Spans.Rising.{span-fair, never_lowered, one_more_lem, ticks_never_lower}
+use Rattle.promises.proofs.Spans.Beneath.{same_beneath, as_if_not_come}
+use Rattle.promises.proofs.Spans.Running.{wtr_runs_on}
+use Rattle.promises.proofs.Spans.Rising.{span_fair, never_lowered, one_more_lem, ticks_never_lower}
 
 made_both : (h g : List Made) → made_of (h ++ g) ≡ made_of h ++ made_of g
 unfolding made_of
@@ -49,10 +49,10 @@ one-call : (own : ℕ) (m : Made) (g : List Made) (r : Reading) → read_as own 
 unfolding calls_of made_of spelled_out
 one-call own m g r is other = ap (λ (l : List Call). l ++ calls_of g) (no_tick-one (call_of m) own r is other)
 
-met-before : (st : Started) (h g : List Made) → Met st (h ++ g) → Met st g
+met_before : (st : Started) (h g : List Made) → Met st (h ++ g) → Met st g
 unfolding Met
-met-before st [] g met = met
-met-before st (m ∷ h) g met = met-before st h g met.1
+met_before st [] g met = met
+met_before st (m ∷ h) g met = met_before st h g met.1
 
 -- An operator request that is not FS is below SF.
 below_sf : (q : ℕ) → listed q ≡ true → (q ≡ FS → ⊥) → higher q SF ≡ SF
@@ -69,16 +69,16 @@ of_both : (P : State → State → Type 0) {x y u v : State} → x ≡ u → y �
 of_both P {x} {y} {u} {v} e d p = subst (λ (z : State). P z y) (sym e) (subst (P u) (sym d) p)
 
 module _ (b : List ℕ) (st : Started) (begun : Begun b st) where
-  seen-is : (h g : List Made) → Met st (h ++ g) → seen st (h ++ g) ≡ after (start_of b) (calls_of h ++ calls_of g)
-  seen-is h g met = state-after b st begun (h ++ g) met ∙ ap (after (start_of b)) (calls_both h g)
+  seen_is : (h g : List Made) → Met st (h ++ g) → seen st (h ++ g) ≡ after (start_of b) (calls_of h ++ calls_of g)
+  seen_is h g met = state-after b st begun (h ++ g) met ∙ ap (after (start_of b)) (calls_both h g)
 
   -- A span of a node is in range, with the settings that start read.
-  fair-seen : (n : ℕ) (g : List Made) → Met st g → SpanFair (ticks_from b) (span_seen n st g)
+  fair_seen : (n : ℕ) (g : List Made) → Met st g → SpanFair (ticks_from b) (span_seen n st g)
   unfolding start_of started
-  fair-seen n g met =
+  fair_seen n g met =
       subst (λ (c : Choice). SpanFair c.ticks (span_seen n st g))
       (ap (λ (z : State). z.choice) (state-after b st begun g met) ∙ choice-after (start_of b) (calls_of g))
-      (span-fair n (seen st g) (ruled b st begun g met).kept.state)
+      (span_fair n (seen st g) (ruled b st begun g met).kept.state)
 
   -- Hold-off: m is the link record, g the calls before it, h those after it.
   module _ (n : ℕ) (side : n ≤ 1) (g : List Made) (m : Made) (x : ℕ) (is : read_as (own_from b) (call_of m) ≡ Link n x) (h : List Made)
@@ -86,21 +86,21 @@ module _ (b : List ℕ) (st : Started) (begun : Begun b st) where
     abbrev told : List Call
     told = calls_of h
 
-    met-g : Met st g
+    met_g : Met st g
     unfolding Met
-    met-g = (met-before st h (m ∷ g) met).1
+    met_g = (met_before st h (m ∷ g) met).1
 
     before : seen st g ≡ after (start_of b) (calls_of g)
-    before = state-after b st begun g met-g
+    before = state-after b st begun g met_g
 
     later : seen st (h ++ (m ∷ g)) ≡ after (start_of b) (told ++ (call_of m ∷ calls_of g))
-    later = seen-is h (m ∷ g) met ∙ ap (λ (l : List Call). after (start_of b) (told ++ l)) (one-call (own_from b) m g (Link n x) is refl)
+    later = seen_is h (m ∷ g) met ∙ ap (λ (l : List Call). after (start_of b) (told ++ l)) (one-call (own_from b) m g (Link n x) is refl)
 
     -- Hold-off runs exactly while a worse status is stored: where none runs, what is worse than the status in force differs from the stored one.
     unstored : (span_seen n st g).holdoff ≡ 0 → (span_seen n st g).force < x → x ≡ (span_seen n st g).stored → ⊥
     unstored calm worse e =
         let u : Span = span_seen n st g in
-        let fair : SpanFair (ticks_from b) u = fair-seen n g met-g in
+        let fair : SpanFair (ticks_from b) u = fair_seen n g met_g in
         true≢false (sym (lt-ltb u.force u.stored (omega arith)) ∙ sym fair.runs ∙ le-ltb 0 u.holdoff (omega arith))
 
     pub node-held_off : link_taken (own_from b) n (calls_of h) ≡ false → (span_seen n st g).holdoff ≡ 0 → (span_seen n st g).force < x
@@ -113,11 +113,11 @@ module _ (b : List ℕ) (st : Started) (begun : Begun b st) where
         before later (λ none other low. held_off (start_of b) n side (calls_of g) (call_of m) x is none other low told quiet) calm (unstored calm worse) worse
 
     -- 02, Item 2: while the link tells nothing as good as what is in force, the time runs on, and the latest status is stored.
-    pub node-runs-on : (span_seen n st g).holdoff ≡ 0 → (span_seen n st g).force < x → as_good_taken (own_from b) n (span_seen n st g).force (calls_of h) ≡ false
+    pub node_runs_on : (span_seen n st g).holdoff ≡ 0 → (span_seen n st g).force < x → as_good_taken (own_from b) n (span_seen n st g).force (calls_of h) ≡ false
         → ticks_taken (own_from b) (calls_of h) < (ticks_from b).holdoff
         → HeldOff (ticks_from b) (span_seen n st g).force (status_told (own_from b) n x (calls_of h)) (ticks_taken (own_from b) (calls_of h)) (span_seen n st (h ++ (m ∷ g)))
     unfolding start_of started
-    node-runs-on calm worse swings more =
+    node_runs_on calm worse swings more =
         of_both
         (λ (y z : State). (span_of n y.spans).holdoff ≡ 0 → (x ≡ (span_of n y.spans).stored → ⊥) → (span_of n y.spans).force < x
         → as_good_taken (own_from b) n (span_of n y.spans).force told ≡ false
@@ -134,9 +134,9 @@ module _ (b : List ℕ) (st : Started) (begun : Begun b st) where
         of_both
         (λ (y z : State). SpanFair (ticks_from b) (span_of n y.spans) → (span_of n y.spans).force < x
         → as_good_taken (own_from b) n (span_of n y.spans).force told ≡ false → (span_of n y.spans).force < (span_of n z.spans).force)
-        before later (λ fair low bad. switches (start_of b) n side (calls_of g) fair (call_of m) x is low told bad over) (fair-seen n g met-g) worse swings in
-        let fair = span-fair n (seen st (h ++ (m ∷ g))) (ruled b st begun (h ++ (m ∷ g)) met).kept.state in
-        (switched, worse-requests (seen st (h ++ (m ∷ g))).choice.ticks (span_seen n st (h ++ (m ∷ g))) fair.force (omega arith))
+        before later (λ fair low bad. switches (start_of b) n side (calls_of g) fair (call_of m) x is low told bad over) (fair_seen n g met_g) worse swings in
+        let fair = span_fair n (seen st (h ++ (m ∷ g))) (ruled b st begun (h ++ (m ∷ g)) met).kept.state in
+        (switched, worse_requests (seen st (h ++ (m ∷ g))).choice.ticks (span_seen n st (h ++ (m ∷ g))) fair.force (omega arith))
 
     -- From a good link, which then tells nothing.
     module _ (u : link_taken (own_from b) n (calls_of h) ≡ false) (stored : (span_seen n st g).stored ≡ good) (force : (span_seen n st g).force ≡ good) where
@@ -146,7 +146,7 @@ module _ (b : List ℕ) (st : Started) (begun : Begun b st) where
       calm : (span_seen n st g).holdoff ≡ 0
       calm =
           let v : Span = span_seen n st g in
-          let still : ltb 0 v.holdoff ≡ false = (fair-seen n g met-g).runs ∙ le-ltb v.force v.stored (omega arith) in
+          let still : ltb 0 v.holdoff ≡ false = (fair_seen n g met_g).runs ∙ le-ltb v.force v.stored (omega arith) in
           omega (arith, ltb-false 0 v.holdoff still)
 
       pub node_idle_meanwhile : good < x → ticks_taken (own_from b) (calls_of h) < (ticks_from b).holdoff → LinkDecides (ticks_from b) (span_seen n st (h ++ (m ∷ g)))
@@ -169,7 +169,7 @@ module _ (b : List ℕ) (st : Started) (begun : Begun b st) where
           (failed-then (start_of b) n side (calls_of g) (call_of m) x is (link (λ (z : Span). z.holdoff) calm) (link (λ (z : Span). z.stored) stored)
           (link (λ (z : Span). z.force) force) (omega arith) told u bad over) in
           let kept : SpanFair (seen st (h ++ (m ∷ g))).choice.ticks (span_seen n st (h ++ (m ∷ g))) =
-          span-fair n (seen st (h ++ (m ∷ g))) (ruled b st begun (h ++ (m ∷ g)) met).kept.state in
+          span_fair n (seen st (h ++ (m ∷ g))) (ruled b st begun (h ++ (m ∷ g)) met).kept.state in
           (both.0, λ free. both.1 ∙ below_sf (span_seen n st (h ++ (m ∷ g))).operator kept.operator free)
 
   -- Beneath an operator request: two nodes of one start, whose calls k and l differ in operator records of span n alone.
@@ -177,25 +177,25 @@ module _ (b : List ℕ) (st : Started) (begun : Begun b st) where
   unfolding start_of
   tidy = started-swept (choice_of (settings_in b).settings)
 
-  pub node-same_beneath : (n : ℕ) (k l : List Made) → Met st k → Met st l → unasked (own_from b) n (calls_of k) ≡ unasked (own_from b) n (calls_of l)
+  pub node_same_beneath : (n : ℕ) (k l : List Made) → Met st k → Met st l → unasked (own_from b) n (calls_of k) ≡ unasked (own_from b) n (calls_of l)
       → SameBeneath n (seen st k) (seen st l)
   unfolding start_of started
-  node-same_beneath n k l mk ml e =
+  node_same_beneath n k l mk ml e =
       of_both (SameBeneath n) (state-after b st begun k mk) (state-after b st begun l ml) (same_beneath n (start_of b) tidy (calls_of k) (calls_of l) e)
 
   -- After the calls g the request comes by the call c, the calls h are made, and it goes by the call d: nothing is lost.
-  pub node_as_if_not-come : (n : ℕ) → n ≤ 1 → (g h : List Call) (c d : Call) (request : ℕ) → read_as (own_from b) c ≡ Operator n request
+  pub node_as_if_not_come : (n : ℕ) → n ≤ 1 → (g h : List Call) (c d : Call) (request : ℕ) → read_as (own_from b) c ≡ Operator n request
       → read_as (own_from b) d ≡ Operator n none → operator_taken (own_from b) n h ≡ false → (span_after n (start_of b) g).operator ≡ none → (k l : List Made) → Met st k → Met st l
       → calls_of k ≡ d ∷ (h ++ (c ∷ g)) → calls_of l ≡ h ++ g → ((seen st k).spans ≡ (seen st l).spans) × ((seen st k).stations ≡ (seen st l).stations)
   unfolding start_of started
-  node_as_if_not-come n side g h c d request comes goes u free k l mk ml ek el =
+  node_as_if_not_come n side g h c d request comes goes u free k l mk ml ek el =
       of_both (λ (y z : State). (y.spans ≡ z.spans) × (y.stations ≡ z.stations))
       (state-after b st begun k mk ∙ ap (after (start_of b)) ek) (state-after b st begun l ml ∙ ap (after (start_of b)) el)
-      (as_if_not-come n (start_of b) tidy g c h d request comes goes side free u)
+      (as_if_not_come n (start_of b) tidy g c h d request comes goes side free u)
 
   -- A running WTR, after the calls h that follow g.
   unrequested : (n : ℕ) (g h : List Made) → Met st (h ++ g) → UnrequestedOn n st g h → Unrequested n (start_of b) (calls_of g) (calls_of h)
-  unrequested n g h met k = subst (λ (z : State). automatic_on n z ≡ none) (seen-is h g met) k
+  unrequested n g h met k = subst (λ (z : State). automatic_on n z ≡ none) (seen_is h g met) k
 
   -- Among many ticks too: none of them takes a request away, so that none came where none is there at the end.
   ticks_always : (n room : ℕ) → 7 ≤ room → (g h : List Call) → StateKept (after (start_of b) (h ++ g)) → (j : ℕ)
@@ -224,17 +224,17 @@ module _ (b : List ℕ) (st : Started) (begun : Begun b st) where
       (sym (spelled-many d is))
       (λ end.
       ticks_always n d.room (many-room d is) (calls_of g) (calls_of h)
-      (subst StateKept (seen-is h g met.1) (ruled b st begun (h ++ g) met.1).kept.state) (count_in (body_of d.bytes)) end rest) now)
+      (subst StateKept (seen_is h g met.1) (ruled b st begun (h ++ g) met.1).kept.state) (count_in (body_of d.bytes)) end rest) now)
       (λ single.
       subst (λ (l : List Call). Unrequested n (start_of b) (calls_of g) (l ++ calls_of h) → Always (Unrequested n (start_of b) (calls_of g)) (l ++ calls_of h))
       (sym (spelled-one d single)) (λ end. (end, rest)) now)
 
-  pub node-wtr-runs-on : (n : ℕ) (g h : List Made) → Met st (h ++ g) → Always (λ (k : List Made). automatic_on n (seen st (k ++ g)) ≡ none) h
+  pub node_wtr_runs_on : (n : ℕ) (g h : List Made) → Met st (h ++ g) → Always (λ (k : List Made). automatic_on n (seen st (k ++ g)) ≡ none) h
       → (span_seen n st (h ++ g)).wtr ≡ (span_seen n st g).wtr - ticks_taken (own_from b) (calls_of h)
   unfolding start_of started
-  node-wtr-runs-on n g h met k =
-      of_both (λ (y z : State). (span_of n y.spans).wtr ≡ (span_of n z.spans).wtr - ticks_taken (own_from b) (calls_of h)) (seen-is h g met)
-      (state-after b st begun g (met-before st h g met)) (wtr-runs-on (start_of b) n (calls_of g) (calls_of h) (always n g h met k))
+  node_wtr_runs_on n g h met k =
+      of_both (λ (y z : State). (span_of n y.spans).wtr ≡ (span_of n z.spans).wtr - ticks_taken (own_from b) (calls_of h)) (seen_is h g met)
+      (state-after b st begun g (met_before st h g met)) (wtr_runs_on (start_of b) n (calls_of g) (calls_of h) (always n g h met k))
 
   -- A tick never lowers an automatic request; nor do many.
   pub node-tick_never_lowers : (n : ℕ) (h : List Made) (m : Made) → Met st (m ∷ h) → read_as (own_from b) (call_of m) ≡ Tick

@@ -11,7 +11,7 @@ use Rattle.stations.specs.Station.{placed_somewhere, with_hops, with_hop}
 use Rattle.stations.specs.Stations.{sifted, unpurged, purged}
 use Rattle.stations.specs.Hearing.{Placed}
 use Rattle.stations.proofs.Lists.{chosen}
-use Rattle.stations.proofs.Sifting.{sifted-all, sifted-same}
+use Rattle.stations.proofs.Sifting.{sifted-all, sifted_same}
 use Rattle.controller.specs.declared.reading.Reading.{Reading}
 use Rattle.controller.specs.Reading.{block_of, reading}
 use Rattle.controller.specs.State.{Choice, Spans, State, started}
@@ -35,7 +35,7 @@ cleared_twice ringlet s = go (eqb ringlet 0)
 purged_twice : (ringlet : ℕ) (l : List Station) → purged ringlet (purged ringlet l) ≡ purged ringlet l
 unfolding purged
 purged_twice ringlet l =
-    sifted-same (unpurged ringlet) (with_hop ringlet 0) (purged ringlet l)
+    sifted_same (unpurged ringlet) (with_hop ringlet 0) (purged ringlet l)
     (sifted-all (unpurged ringlet) (with_hop ringlet 0)
     (λ (s : Station). (unpurged ringlet s ≡ true) × (with_hop ringlet 0 s ≡ s))
     (λ s stays. (ap placed_somewhere (cleared_twice ringlet s) ∙ stays, cleared_twice ringlet s)) l)

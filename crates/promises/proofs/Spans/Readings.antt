@@ -32,28 +32,28 @@ right : (a b : Bool) → a && b ≡ true → b ≡ true
 right a b h = ((and-eq-true_iff a b).0 h).1
 
 module _ (own : ℕ) (b : List ℕ) where
-  span-low : leb (byte_at b 0) 1 ≡ true → byte_at b 0 ≤ 1
-  span-low h = leb-true (byte_at b 0) 1 h
+  span_low : leb (byte_at b 0) 1 ≡ true → byte_at b 0 ≤ 1
+  span_low h = leb-true (byte_at b 0) 1 h
 
   link_sided : Sided (link_in b)
   unfolding link_in
   link_sided =
       chosen Sided (link_fits b)
-      (λ h. span-low (right (eqb (length b) 2) _ (left (eqb (length b) 2 && leb (byte_at b 0) 1) (leb (byte_at b 1) 2) h))) (λ h. omega arith)
+      (λ h. span_low (right (eqb (length b) 2) _ (left (eqb (length b) 2 && leb (byte_at b 0) 1) (leb (byte_at b 1) 2) h))) (λ h. omega arith)
 
   keepalive_sided : Sided (keepalive_in b)
   unfolding keepalive_in
-  keepalive_sided = chosen Sided (keepalive_fits b) (λ h. span-low (right (eqb (length b) 1) _ h)) (λ h. omega arith)
+  keepalive_sided = chosen Sided (keepalive_fits b) (λ h. span_low (right (eqb (length b) 1) _ h)) (λ h. omega arith)
 
   operator_sided : Sided (operator_in b)
   unfolding operator_in
   operator_sided =
       chosen Sided (operator_fits b)
-      (λ h. span-low (right (eqb (length b) 2) _ (left (eqb (length b) 2 && leb (byte_at b 0) 1) (listed (byte_at b 1)) h))) (λ h. omega arith)
+      (λ h. span_low (right (eqb (length b) 2) _ (left (eqb (length b) 2 && leb (byte_at b 0) 1) (listed (byte_at b 1)) h))) (λ h. omega arith)
 
-  report-span : report_fits b ≡ true → byte_at b 0 ≤ 1
-  report-span h =
-      span-low
+  report_span : report_fits b ≡ true → byte_at b 0 ≤ 1
+  report_span h =
+      span_low
       (right (eqb (length b) 12) _
       (left (eqb (length b) 12 && leb (byte_at b 0) 1) (leb (byte_at b 1) 1)
       (left (eqb (length b) 12 && leb (byte_at b 0) 1 && leb (byte_at b 1) 1) (ltb 0 (byte_at b 2))
@@ -69,7 +69,7 @@ module _ (own : ℕ) (b : List ℕ) where
   report_sided =
       chosen Sided (report_fits b)
       (λ h. chosen Sided (eqb (address_at b 3) own) (λ o. omega arith)
-      (λ o. chosen Sided (ltb farthest (256 - byte_at b 2)) (λ j. omega arith) (λ j. report-span h)))
+      (λ o. chosen Sided (ltb farthest (256 - byte_at b 2)) (λ j. omega arith) (λ j. report_span h)))
       (λ h. omega arith)
 
   block_sided : Sided (block_in own b)
@@ -78,7 +78,7 @@ module _ (own : ℕ) (b : List ℕ) where
       chosen Sided (block_fits b)
       (λ h. chosen Sided (eqb (address_at b 1) own) (λ o. omega arith)
       (λ o.
-      span-low
+      span_low
       (right (leb 7 (length b) && leb (length b) 1031) _
       (left (leb 7 (length b) && leb (length b) 1031 && leb (byte_at b 0) 1) (not (odd_first (address_at b 1))) h))))
       (λ h. omega arith)

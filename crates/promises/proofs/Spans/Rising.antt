@@ -20,15 +20,15 @@ use Rattle.controller.specs.declared.reading.Reading.TheVariants.{Tick}
 use Rattle.controller.specs.State.{Choice, Spans, State, span_of, started}
 use Rattle.controller.specs.Handling.{acted}
 use Rattle.controller.specs.Kept.{StateKept}
-use Rattle.controller.proofs.Holding.{ticking-kept}
+use Rattle.controller.proofs.Holding.{ticking_kept}
 use Rattle.promises.specs.History.{Call, after, tick_with, AllBytes}
 use Rattle.promises.specs.Spans.{read_as, span_after, automatic_on}
 use Rattle.promises.proofs.Demand2.AfterKept.{after_kept, choice-after}
-use Rattle.promises.proofs.Demand2.Spelling.{tick-read, ticks-after}
-use Rattle.promises.proofs.Spans.OneRecord.{span-call, ticked_both}
+use Rattle.promises.proofs.Demand2.Spelling.{tick_read, ticks-after}
+use Rattle.promises.proofs.Spans.OneRecord.{span_call, ticked_both}
 
-pub span-fair : (n : ℕ) (s : State) → StateKept s → SpanFair s.choice.ticks (span_of n s.spans)
-span-fair n s k = go (eqb n 0)
+pub span_fair : (n : ℕ) (s : State) → StateKept s → SpanFair s.choice.ticks (span_of n s.spans)
+span_fair n s k = go (eqb n 0)
   where
     go : (b : Bool) → SpanFair s.choice.ticks (cond b s.spans.west s.spans.east)
     go true = k.west.fair
@@ -44,7 +44,7 @@ module _ (s : State) (h : List Call) (c : Call) (is : read_as s.choice.address c
       let u : Span = span_after n s h in
       let y : Spans = (after s h).spans in
       ap (λ (k : Choice). automatic k.ticks (span_after n s (c ∷ h))) (choice-after s (c ∷ h))
-      ∙ ap (automatic t) (span-call s h c n ∙ ap (λ (r : Reading). waited t (automatic t u) (span_of n (acted t r y))) is)
+      ∙ ap (automatic t) (span_call s h c n ∙ ap (λ (r : Reading). waited t (automatic t u) (span_of n (acted t r y))) is)
       ∙ waited-automatic t (automatic t u) (span_of n (acted t Tick y))
       ∙ ap (automatic t) (ticked_both t n y)
 
@@ -52,7 +52,7 @@ module _ (s : State) (h : List Call) (c : Call) (is : read_as s.choice.address c
   never_lowered k =
       let u : Span = span_after n s h in
       let before : automatic_on n (after s h) ≡ automatic t u = ap (λ (q : Choice). automatic q.ticks u) (choice-after s h) in
-      let fair : SpanFair t u = subst (λ (q : Choice). SpanFair q.ticks u) (choice-after s h) (span-fair n (after s h) k) in
+      let fair : SpanFair t u = subst (λ (q : Choice). SpanFair q.ticks u) (choice-after s h) (span_fair n (after s h) k) in
       rw (before, ticked-call) (tick_rises t u fair)
 
   pub never_taken_away : StateKept (after s h) → (automatic_on n (after s h) ≡ none → ⊥) → automatic_on n (after s (c ∷ h)) ≡ none → ⊥
@@ -60,11 +60,11 @@ module _ (s : State) (h : List Call) (c : Call) (is : read_as s.choice.address c
 
 -- Many ticks after the calls l.
 module _ (s : State) (room : ℕ) (enough : 7 ≤ room) (l : List Call) (k : StateKept (after s l)) where
-  pub kept-ticks : (j : ℕ) → StateKept (after s (replicate j (tick_with room) ++ l))
-  kept-ticks j = subst StateKept (ticks-after room enough j s l) (ticking-kept j (after s l) k)
+  pub kept_ticks : (j : ℕ) → StateKept (after s (replicate j (tick_with room) ++ l))
+  kept_ticks j = subst StateKept (ticks-after room enough j s l) (ticking_kept j (after s l) k)
 
   pub one_more_lem : (n j : ℕ) → automatic_on n (after s (replicate j (tick_with room) ++ l)) ≤ automatic_on n (after s (replicate (suc j) (tick_with room) ++ l))
-  one_more_lem n j = never_lowered s (replicate j (tick_with room) ++ l) (tick_with room) (tick-read room enough s.choice.address) n (kept-ticks j)
+  one_more_lem n j = never_lowered s (replicate j (tick_with room) ++ l) (tick_with room) (tick_read room enough s.choice.address) n (kept_ticks j)
 
   pub ticks_never_lower : (n j : ℕ) → automatic_on n (after s l) ≤ automatic_on n (after s (replicate j (tick_with room) ++ l))
   ticks_never_lower n zero = omega arith

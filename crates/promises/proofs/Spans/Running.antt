@@ -9,8 +9,8 @@ use Rattle.spans.specs.declared.span.Span.{Span}
 use Rattle.spans.specs.Codes.{none}
 use Rattle.spans.specs.Records.{linked, ticked, alive, asked}
 use Rattle.spans.specs.Requests.{automatic, waited}
-use Rattle.spans.proofs.Fair.{linked-wtr}
-use Rattle.spans.proofs.Waiting.{waited-automatic, waited-same}
+use Rattle.spans.proofs.Fair.{linked_wtr}
+use Rattle.spans.proofs.Waiting.{waited-automatic, waited_same}
 use Rattle.controller.specs.declared.reading.Reading.{Reading}
 use Rattle.controller.specs.declared.reading.Reading.TheVariants.{Refused, Tick, Link, Keepalive, Operator, Heard, Block}
 use Rattle.controller.specs.State.{Choice, Spans, State, span_of}
@@ -19,22 +19,22 @@ use Rattle.controller.specs.Closing.{is_tick}
 use Rattle.promises.specs.History.{Call, after, Always}
 use Rattle.promises.specs.Spans.{own_in, ticks_in, read_as, ticks_taken, span_after, Unrequested}
 use Rattle.promises.proofs.Demand2.AfterKept.{choice-after}
-use Rattle.promises.proofs.Spans.OneRecord.{span-call, touched, cabled_touched, ticked_both}
+use Rattle.promises.proofs.Spans.OneRecord.{span_call, touched, cabled_touched, ticked_both}
 
 -- No handler but a tick's changes WTR.
 module _ (n : ℕ) (t : Ticks) (y : Spans) where
   abbrev Left : ℕ → Span → Type 0
   Left w u = u.wtr ≡ w
 
-  acted-wtr : (r : Reading) → (span_of n (acted t r y)).wtr ≡ cond (is_tick r) ((span_of n y).wtr - 1) (span_of n y).wtr
+  acted_wtr : (r : Reading) → (span_of n (acted t r y)).wtr ≡ cond (is_tick r) ((span_of n y).wtr - 1) (span_of n y).wtr
   unfolding acted ticked
-  acted-wtr (Refused i) = refl
-  acted-wtr Tick = ap (λ (z : Span). z.wtr) (ticked_both t n y)
-  acted-wtr (Link m status) = touched (Left (span_of n y).wtr) (linked t status) m n y (λ e. linked-wtr t (span_of n y) status) refl
-  acted-wtr (Keepalive m) = touched (Left (span_of n y).wtr) alive m n y (λ e. refl) refl
-  acted-wtr (Operator m request) = touched (Left (span_of n y).wtr) (asked request) m n y (λ e. refl) refl
-  acted-wtr (Heard m p) = cabled_touched (Left (span_of n y).wtr) m n p y (λ mark. refl) refl
-  acted-wtr (Block m a) = refl
+  acted_wtr (Refused i) = refl
+  acted_wtr Tick = ap (λ (z : Span). z.wtr) (ticked_both t n y)
+  acted_wtr (Link m status) = touched (Left (span_of n y).wtr) (linked t status) m n y (λ e. linked_wtr t (span_of n y) status) refl
+  acted_wtr (Keepalive m) = touched (Left (span_of n y).wtr) alive m n y (λ e. refl) refl
+  acted_wtr (Operator m request) = touched (Left (span_of n y).wtr) (asked request) m n y (λ e. refl) refl
+  acted_wtr (Heard m p) = cabled_touched (Left (span_of n y).wtr) m n p y (λ mark. refl) refl
+  acted_wtr (Block m a) = refl
 
 -- What holds at every point holds at the last.
 now : (P : List Call → Type 0) (h : List Call) → Always P h → P h
@@ -51,17 +51,17 @@ module _ (s : State) (n : ℕ) (g : List Call) where
   step c h later before =
       let u : Span = span_after n s (h ++ g) in
       let v : Span = span_of n (acted (ticks_in s) (read_as (own_in s) c) (after s (h ++ g)).spans) in
-      let is : span_after n s (c ∷ (h ++ g)) ≡ waited (ticks_in s) (automatic (ticks_in s) u) v = span-call s (h ++ g) c n in
+      let is : span_after n s (c ∷ (h ++ g)) ≡ waited (ticks_in s) (automatic (ticks_in s) u) v = span_call s (h ++ g) c n in
       let same : automatic (ticks_in s) v ≡ automatic (ticks_in s) u =
       sym (waited-automatic (ticks_in s) (automatic (ticks_in s) u) v) ∙ ap (automatic (ticks_in s)) (sym is) ∙ unrequested (c ∷ h) later ∙ sym (unrequested h before) in
-      ap (λ (z : Span). z.wtr) (is ∙ waited-same (ticks_in s) (automatic (ticks_in s) u) v same) ∙ acted-wtr n (ticks_in s) (after s (h ++ g)).spans (read_as (own_in s) c)
+      ap (λ (z : Span). z.wtr) (is ∙ waited_same (ticks_in s) (automatic (ticks_in s) u) v same) ∙ acted_wtr n (ticks_in s) (after s (h ++ g)).spans (read_as (own_in s) c)
 
-  pub wtr-runs-on : (h : List Call) → Always (Unrequested n s g) h → (span_after n s (h ++ g)).wtr ≡ (span_after n s g).wtr - ticks_taken (own_in s) h
+  pub wtr_runs_on : (h : List Call) → Always (Unrequested n s g) h → (span_after n s (h ++ g)).wtr ≡ (span_after n s g).wtr - ticks_taken (own_in s) h
   unfolding Always ticks_taken
-  wtr-runs-on [] k = omega arith
-  wtr-runs-on (c ∷ h) k =
+  wtr_runs_on [] k = omega arith
+  wtr_runs_on (c ∷ h) k =
       step c h k.0 (now (Unrequested n s g) h k.1)
-      ∙ fall (is_tick (read_as (own_in s) c)) (span_after n s (h ++ g)).wtr (span_after n s g).wtr (ticks_taken (own_in s) h) (wtr-runs-on h k.1)
+      ∙ fall (is_tick (read_as (own_in s) c)) (span_after n s (h ++ g)).wtr (span_after n s g).wtr (ticks_taken (own_in s) h) (wtr_runs_on h k.1)
     where
       fall : (b : Bool) (left w k : ℕ) → left ≡ w - k → cond b (left - 1) left ≡ w - cond b (suc k) k
       fall true left w k e = omega arith
@@ -77,10 +77,10 @@ module _ (s : State) (n : ℕ) (g : List Call) where
       more false all a z e = e
 
   -- A request comes, the calls h are made, and it goes: what ran has run by the ticks of h.
-  pub wtr-runs_beneath : (c : Call) (h : List Call) (d : Call) (request : ℕ) → read_as (own_in s) c ≡ Operator n request → read_as (own_in s) d ≡ Operator n none
+  pub wtr_runs_beneath : (c : Call) (h : List Call) (d : Call) (request : ℕ) → read_as (own_in s) c ≡ Operator n request → read_as (own_in s) d ≡ Operator n none
       → Always (Unrequested n s g) (d ∷ (h ++ (c ∷ []))) → (span_after n s ((d ∷ (h ++ (c ∷ []))) ++ g)).wtr ≡ (span_after n s g).wtr - ticks_taken (own_in s) h
   unfolding ticks_taken
-  wtr-runs_beneath c h d request comes goes k =
+  wtr_runs_beneath c h d request comes goes k =
       let first : ticks_taken (own_in s) (c ∷ []) ≡ 0 = rw comes refl in
       let last : ticks_taken (own_in s) (d ∷ (h ++ (c ∷ []))) ≡ ticks_taken (own_in s) (h ++ (c ∷ [])) = rw goes refl in
-      wtr-runs-on (d ∷ (h ++ (c ∷ []))) k ∙ ap (λ (m : ℕ). (span_after n s g).wtr - m) (last ∙ ticks_both h (c ∷ []) ∙ omega arith)
+      wtr_runs_on (d ∷ (h ++ (c ∷ []))) k ∙ ap (λ (m : ℕ). (span_after n s g).wtr - m) (last ∙ ticks_both h (c ∷ []) ∙ omega arith)

@@ -26,9 +26,9 @@ use Rattle.promises.specs.History.{Call, after, AllBytes}
 use Rattle.promises.specs.Spans.{own_in, ticks_in, read_as, is_link, some_taken, ticks_taken, link_taken, span_after, request_on, automatic_on}
 use Rattle.promises.specs.HoldOff.{is_as_good, as_good_taken, status_told, SwitchesInTime}
 use Rattle.promises.proofs.Demand2.AfterKept.{after_kept, choice-after}
-use Rattle.promises.proofs.Spans.Links.{link-step, over-calls}
+use Rattle.promises.proofs.Spans.Links.{link-step, over_calls}
 use Rattle.promises.proofs.Spans.HoldOff.{idle_of, sf_of, sd_alone_of, starts, goes_on_lem}
-use Rattle.promises.proofs.Spans.Rising.{span-fair}
+use Rattle.promises.proofs.Spans.Rising.{span_fair}
 
 -- A link record of the span that is not as good as f is worse.
 as_bad : (n f status : ℕ) → is_as_good n f (Link n status) ≡ false → f < status
@@ -43,7 +43,7 @@ module _ (s : State) (n : ℕ) (side : n ≤ 1) (g : List Call) (c : Call) (x : 
     runs_on =
         let t : Ticks = ticks_in s in
         let f : ℕ = (span_after n s g).force in
-        over-calls s n side (λ (k z : ℕ) (u : Span). k < t.holdoff → HeldOff t f z k u)
+        over_calls s n side (λ (k z : ℕ) (u : Span). k < t.holdoff → HeldOff t f z k u)
         (λ k z u v same p low. held_same t f z k u (p low) v same)
         (λ k z u p low. held-ticked t f z k u (p (omega arith))) (is_as_good n f)
         (λ k z status u bad p low. held-swung t f z k u (p low) low status (as_bad n f status bad)) (c ∷ g) x
@@ -146,22 +146,22 @@ switches s n side g fair d x is worse h swings over =
     let first : Switching t f 0 (span_after n s (d ∷ g)) =
     switching_same t f 0 (linked t x u) (switching_first t x u fair worse) (span_after n s (d ∷ g)) (link-step s n side g d x is) in
     switched t f (ticks_taken (own_in s) h) (span_after n s (h ++ (d ∷ g)))
-    (over-calls s n side (λ (k z : ℕ) (v : Span). Switching t f k v) (λ k z v w same p. switching_same t f k v p w same) (λ k z v p. switching_ticked t f k v p)
+    (over_calls s n side (λ (k z : ℕ) (v : Span). Switching t f k v) (λ k z v w same p. switching_same t f k v p w same) (λ k z v p. switching_ticked t f k v p)
     (is_as_good n f) (λ k z status v bad p. switching_linked t f k v p status (as_bad n f status bad)) (d ∷ g) x first h swings) over
 
-fair-after : (c : Choice) → TicksKept c.ticks → (n : ℕ) (h : List Call) → AllBytes h → SpanFair c.ticks (span_after n (started c) h)
+fair_after : (c : Choice) → TicksKept c.ticks → (n : ℕ) (h : List Call) → AllBytes h → SpanFair c.ticks (span_after n (started c) h)
 unfolding started
-fair-after c t n h b =
-    subst (λ (k : Choice). SpanFair k.ticks (span_after n (started c) h)) (choice-after (started c) h) (span-fair n (after (started c) h) (after_kept c t h b))
+fair_after c t n h b =
+    subst (λ (k : Choice). SpanFair k.ticks (span_after n (started c) h)) (choice-after (started c) h) (span_fair n (after (started c) h) (after_kept c t h b))
 
 pub switches_in_time : SwitchesInTime span_after
 unfolding started
-switches_in_time c t n side g b d x is worse h swings over = switches (started c) n side g (fair-after c t n g b) d x is worse h swings over
+switches_in_time c t n side g b d x is worse h swings over = switches (started c) n side g (fair_after c t n g b) d x is worse h swings over
 
 -- A status worse than another is a request: SD, or SF.
-pub worse-requests : (t : Ticks) (u : Span) → u.force ≤ failed → good < u.force → SD ≤ automatic t u
+pub worse_requests : (t : Ticks) (u : Span) → u.force ≤ failed → good < u.force → SD ≤ automatic t u
 unfolding automatic
-worse-requests t u low worse = go (eqb u.force failed) refl (leb t.keepalive u.age) u.cable (eqb u.force degraded) refl
+worse_requests t u low worse = go (eqb u.force failed) refl (leb t.keepalive u.age) u.cable (eqb u.force degraded) refl
   where
     go : (a : Bool) → eqb u.force failed ≡ a → (b c : Bool) → (e : Bool) → eqb u.force degraded ≡ e → SD ≤ cond (a || b || c) SF (cond e SD none)
     go true p b c e q = omega arith

@@ -139,8 +139,8 @@ module _ (c : Choice) (r : Reading) (b : List ℕ) where
       ∙ ap (λ (y : Spans). judged c r b y l) (acted-bare c.ticks r a x)
       ∙ judged-bare c r b a (acted c.ticks r x) l
 
-  stations-bare : (a : Bool) (x : Spans) (l : List Station) → stations_left (bare a x) l ≡ stations_left x l
-  stations-bare a x l =
+  stations_bare : (a : Bool) (x : Spans) (l : List Station) → stations_left (bare a x) l ≡ stations_left x l
+  stations_bare a x l =
       let j : Placed = placed_by x l in
       let sweep : swept c.ticks (spans_left (bare a x)) j.stations ≡ swept c.ticks (spans_left x) j.stations =
       sym (swept-bare c.ticks a (spans_left (bare a x)) j.stations)
@@ -182,9 +182,9 @@ same_of n r b s u e = record {
 
     stations : stations_left s.choice r b s.spans s.stations ≡ stations_left u.choice r b u.spans u.stations
     stations =
-        sym (stations-bare s.choice r b a s.spans s.stations)
+        sym (stations_bare s.choice r b a s.spans s.stations)
         ∙ (λ i. stations_left (e.choice i) r b (e.spans i) (e.stations i))
-        ∙ stations-bare u.choice r b a u.spans u.stations
+        ∙ stations_bare u.choice r b a u.spans u.stations
 
 -- An operator record of the span leaves all else as it is, in a state that is purged.
 asked-spans : (t : Ticks) (request : ℕ) (a : Bool) (x : Spans) → bare a (settled t x (put a (asked request (at a x)) x)) ≡ bare a x
@@ -200,7 +200,7 @@ asked-spans t request a x =
 
 pub operator_of : (n request : ℕ) (b : List ℕ) (s : State) → Swept s → SameBeneath n (outcome_of (Operator n request) b s).state s
 unfolding acted judged
-operator_of n request b s swept-is = record {
+operator_of n request b s swept_is = record {
   choice = outcome_of_choice (Operator n request) b s;
   spans = ap (bare a) (spans_of_lem s b (Operator n request)) ∙ same;
   stations =
@@ -208,7 +208,7 @@ operator_of n request b s swept-is = record {
       ∙ sym (swept-bare t a (settled t x (asked_on n request x)) s.stations)
       ∙ ap (λ (y : Spans). swept t y s.stations) same
       ∙ swept-bare t a x s.stations
-      ∙ swept-is;
+      ∙ swept_is;
 }
   where
     a : Bool

@@ -23,15 +23,15 @@ use Rattle.promises.specs.Drilled.{calls_for}
 use Rattle.promises.specs.Examples.{station, settings, ring}
 use Rattle.promises.specs.Possible.{all_bytes}
 use Rattle.promises.specs.SteeringDrills.{one, state, ends, and_then, purging, rejoining, westward, troubled}
-use Rattle.promises.proofs.Demand2.Possible.{all-bytes}
+use Rattle.promises.proofs.Demand2.Possible.{all_bytes_lem}
 use Rattle.promises.proofs.Steering.Steering.{west_clear, east_clear, west_points, east_points, zeros_told}
 
-pub one-is : choice_of (settings_in (settings 2 0)).settings ≡ one
+pub one_is : choice_of (settings_in (settings 2 0)).settings ≡ one
 unfolding settings_in head_of broken full_in fields_of in_range address_at ticks_of knows
-one-is = refl
+one_is = refl
 
-pub ticks-met : TicksKept one.ticks
-ticks-met = record {
+pub ticks_met : TicksKept one.ticks
+ticks_met = record {
   wtr = omega arith;
   holdoff = omega arith;
   keepalive_low = omega arith;
@@ -45,40 +45,40 @@ ticks-met = record {
 }
 
 -- p11: west is answered, at hop 2; and what west_clear then says of the second span.
-pub west-bytes : AllBytes (calls_for (ring IDLE))
+pub west_bytes : AllBytes (calls_for (ring IDLE))
 unfolding all_bytes
-west-bytes = all-bytes (calls_for (ring IDLE)) refl
+west_bytes = all_bytes_lem (calls_for (ring IDLE)) refl
 
-pub west-met : number (steered (state (ring IDLE)) (station 3)) ≡ 0
+pub west_met : number (steered (state (ring IDLE)) (station 3)) ≡ 0
 unfolding started after steered address_at
-west-met = refl
+west_met = refl
 
-pub west-two : hop_of 0 (station 3) (state (ring IDLE)).stations ≡ 2
+pub west_two : hop_of 0 (station 3) (state (ring IDLE)).stations ≡ 2
 unfolding started after hop_of address_at
-west-two = refl
+west_two = refl
 
-pub west-second : Clear (said (started one) (calls_for (ring IDLE))) 0 (west_request (state (ring IDLE))) (state (ring IDLE)).stations 1
-west-second = west_clear one ticks-met (calls_for (ring IDLE)) west-bytes (station 3) west-met 1 (omega (arith, west-two))
+pub west_second : Clear (said (started one) (calls_for (ring IDLE))) 0 (west_request (state (ring IDLE))) (state (ring IDLE)).stations 1
+west_second = west_clear one ticks_met (calls_for (ring IDLE)) west_bytes (station 3) west_met 1 (omega (arith, west_two))
 
 pub west_stands : StandsAt (said (started one) (calls_for (ring IDLE))) 0 2 (state (ring IDLE)).stations (ends IDLE IDLE)
 unfolding started said address_at
-west_stands = record { address = station 3; at = west-two; requests = refl }
+west_stands = record { address = station 3; at = west_two; requests = refl }
 
 -- p12: east is answered, at hop 2.
-pub east-bytes : AllBytes (calls_for (ring SD))
+pub east_bytes : AllBytes (calls_for (ring SD))
 unfolding all_bytes
-east-bytes = all-bytes (calls_for (ring SD)) refl
+east_bytes = all_bytes_lem (calls_for (ring SD)) refl
 
-pub east-met : number (steered (state (ring SD)) (station 3)) ≡ 1
+pub east_met : number (steered (state (ring SD)) (station 3)) ≡ 1
 unfolding started after steered address_at
-east-met = refl
+east_met = refl
 
-pub east-two : hop_of 1 (station 3) (state (ring SD)).stations ≡ 2
+pub east_two : hop_of 1 (station 3) (state (ring SD)).stations ≡ 2
 unfolding started after hop_of address_at
-east-two = refl
+east_two = refl
 
-pub east-second : Clear (said (started one) (calls_for (ring SD))) 1 (east_request (state (ring SD))) (state (ring SD)).stations 1
-east-second = east_clear one ticks-met (calls_for (ring SD)) east-bytes (station 3) east-met 1 (omega (arith, east-two))
+pub east_second : Clear (said (started one) (calls_for (ring SD))) 1 (east_request (state (ring SD))) (state (ring SD)).stations 1
+east_second = east_clear one ticks_met (calls_for (ring SD)) east_bytes (station 3) east_met 1 (omega (arith, east_two))
 
 -- What was last said of 2 and of 3 there, and of a station never heard.
 pub said_2 : said (started one) (calls_for (ring SD)) (station 2) ≡ some (ends SD IDLE)
@@ -102,9 +102,9 @@ pub said_copy : said (started one) (calls_for (and_then 1)) (station 2) ≡ some
 unfolding started said address_at
 said_copy = refl
 
-pub said-old : said (started one) (calls_for (and_then 200)) (station 2) ≡ some (ends SD IDLE)
+pub said_old : said (started one) (calls_for (and_then 200)) (station 2) ≡ some (ends SD IDLE)
 unfolding started said address_at
-said-old = refl
+said_old = refl
 
 pub said-newer : said (started one) (calls_for (and_then 2)) (station 2) ≡ some (ends IDLE SF)
 unfolding started said address_at
@@ -118,21 +118,21 @@ pub said_rejoined : said (started one) (calls_for rejoining) (station 2) ≡ som
 unfolding started said address_at
 said_rejoined = refl
 
-pub far-end_idle : number (steered (state (westward IDLE)) (station 3)) ≡ 0
+pub far_end_idle : number (steered (state (westward IDLE)) (station 3)) ≡ 0
 unfolding started after steered address_at
-far-end_idle = refl
+far_end_idle = refl
 
-pub far-end-failed : number (steered (state (westward SF)) (station 3)) ≡ 2
+pub far_end_failed : number (steered (state (westward SF)) (station 3)) ≡ 2
 unfolding started after steered address_at
-far-end-failed = refl
+far_end_failed = refl
 
-pub far-end-said : said (started one) (calls_for (westward SF)) (station 3) ≡ some (ends IDLE SF)
+pub far_end_said : said (started one) (calls_for (westward SF)) (station 3) ≡ some (ends IDLE SF)
 unfolding started said address_at
-far-end-said = refl
+far_end_said = refl
 
 -- 02, Item 5: no way, and zeros; and of a station that was never heard.
-pub far-end_zeros : numbers (steering (state (westward SF)) (station 3)) ≡ 2 ∷ 0 ∷ 0 ∷ 0 ∷ []
-far-end_zeros = zeros_told (state (westward SF)) (station 3) 2 (inl refl) far-end-failed
+pub far_end_zeros : numbers (steering (state (westward SF)) (station 3)) ≡ 2 ∷ 0 ∷ 0 ∷ 0 ∷ []
+far_end_zeros = zeros_told (state (westward SF)) (station 3) 2 (inl refl) far_end_failed
 
 pub unheard : number (steered (state (westward SF)) (station 5)) ≡ 3
 unfolding started after steered address_at
@@ -142,17 +142,17 @@ pub unheard_zeros : numbers (steering (state (westward SF)) (station 5)) ≡ 3 �
 unheard_zeros = zeros_told (state (westward SF)) (station 5) 3 (inr refl) unheard
 
 -- Trouble on the second span of the way west; the numbers of this ring and of P12's are among the examples (`second_span`, `p12_told`).
-pub troubled-bytes : AllBytes (calls_for troubled)
+pub troubled_bytes : AllBytes (calls_for troubled)
 unfolding all_bytes
-troubled-bytes = all-bytes (calls_for troubled) refl
+troubled_bytes = all_bytes_lem (calls_for troubled) refl
 
-pub troubled-west : number (steered (state troubled) (station 3)) ≡ 0
+pub troubled_west : number (steered (state troubled) (station 3)) ≡ 0
 unfolding started after steered address_at
-troubled-west = refl
+troubled_west = refl
 
 pub troubled_points : Points (said (started one) (calls_for troubled)) 0 (west_request (state troubled)) (state troubled).stations (station 3) (steering (state troubled) (station 3))
-troubled_points = west_points one ticks-met (calls_for troubled) troubled-bytes (station 3) troubled-west
+troubled_points = west_points one ticks_met (calls_for troubled) troubled_bytes (station 3) troubled_west
 
 -- p12: on the way east there is none.
-pub east-pointed : Points (said (started one) (calls_for (ring SD))) 1 (east_request (state (ring SD))) (state (ring SD)).stations (station 3) (steering (state (ring SD)) (station 3))
-east-pointed = east_points one ticks-met (calls_for (ring SD)) east-bytes (station 3) east-met
+pub east_pointed : Points (said (started one) (calls_for (ring SD))) 1 (east_request (state (ring SD))) (state (ring SD)).stations (station 3) (steering (state (ring SD)) (station 3))
+east_pointed = east_points one ticks_met (calls_for (ring SD)) east_bytes (station 3) east_met

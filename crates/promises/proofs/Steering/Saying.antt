@@ -33,9 +33,9 @@ use Rattle.stations.specs.Stations.{
 use Rattle.stations.specs.Hearing.{Placed, distance, heard_again, placed}
 use Rattle.stations.specs.Table.{Each}
 use Rattle.stations.proofs.Lists.{chosen, each_map, each_both}
-use Rattle.stations.proofs.Sifting.{sifted-each}
-use Rattle.stations.proofs.Renewing.{renewed-each, renewed-all}
-use Rattle.stations.proofs.Inserting.{Nobody, inserted-each, unknown_nobody, displaced_nobody}
+use Rattle.stations.proofs.Sifting.{sifted_each}
+use Rattle.stations.proofs.Renewing.{renewed_each, renewed-all}
+use Rattle.stations.proofs.Inserting.{Nobody, inserted_each, unknown_nobody, displaced_nobody}
 use Rattle.stations.proofs.Placing.{placed-ends}
 use Rattle.ways.specs.Walk.{Ends}
 use Rattle.controller.specs.declared.reading.Reading.{Reading}
@@ -54,49 +54,49 @@ abbrev pub Says : (ℕ → Option Ends) → Station → Type 0
 Says f x = f x.address ≡ some (ends_of x)
 
 -- It matters only what f gives.
-still-says : (f g : ℕ → Option Ends) → ((a : ℕ) → g a ≡ f a) → (l : List Station) → Each (Says f) l → Each (Says g) l
-still-says f g same = each_map (Says f) (Says g) (λ s e. same s.address ∙ e)
+still_says : (f g : ℕ → Option Ends) → ((a : ℕ) → g a ≡ f a) → (l : List Station) → Each (Says f) l → Each (Says g) l
+still_says f g same = each_map (Says f) (Says g) (λ s e. same s.address ∙ e)
 
 -- The steps that leave addresses and requests as they are: a tick, a purge, (e), a block.
 module _ (f : ℕ → Option Ends) where
-  aged-says : (forget : ℕ) (l : List Station) → Each (Says f) l → Each (Says f) (aged forget l)
+  aged_says : (forget : ℕ) (l : List Station) → Each (Says f) l → Each (Says f) (aged forget l)
   unfolding aged
-  aged-says forget = sifted-each (young forget) older (Says f) (Says f) (λ s e stays. e)
+  aged_says forget = sifted_each (young forget) older (Says f) (Says f) (λ s e stays. e)
 
-  purged-says : (ringlet : ℕ) (l : List Station) → Each (Says f) l → Each (Says f) (purged ringlet l)
+  purged_says : (ringlet : ℕ) (l : List Station) → Each (Says f) l → Each (Says f) (purged ringlet l)
   unfolding purged
-  purged-says ringlet = sifted-each (unpurged ringlet) (with_hop ringlet 0) (Says f) (Says f) (λ s e stays. e)
+  purged_says ringlet = sifted_each (unpurged ringlet) (with_hop ringlet 0) (Says f) (Says f) (λ s e stays. e)
 
-  displaced-says : (p : Report) (l : List Station) → Each (Says f) l → Each (Says f) (displaced p l)
+  displaced_says : (p : Report) (l : List Station) → Each (Says f) l → Each (Says f) (displaced p l)
   unfolding displaced
-  displaced-says p =
-      sifted-each (undisplaced p) (losing p) (Says f) (Says f) (λ s e stays. chosen (Says f) (other_at p s) (λ h. e) (λ h. e))
+  displaced_says p =
+      sifted_each (undisplaced p) (losing p) (Says f) (Says f) (λ s e stays. chosen (Says f) (other_at p s) (λ h. e) (λ h. e))
 
-  given-says : (a : ℕ) (x : Attributes) (l : List Station) → Each (Says f) l → Each (Says f) (given a x l)
+  given_says : (a : ℕ) (x : Attributes) (l : List Station) → Each (Says f) l → Each (Says f) (given a x l)
   unfolding given
-  given-says a x = renewed-all a (with_attributes x) (Says f) (λ s e. e)
+  given_says a x = renewed-all a (with_attributes x) (Says f) (λ s e. e)
 
   purged_if_says : (is_down : Bool) (ringlet : ℕ) (l : List Station) → Each (Says f) l → Each (Says f) (purged_if is_down ringlet l)
-  purged_if_says is_down ringlet l e = chosen (Each (Says f)) is_down (λ h. purged-says ringlet l e) (λ h. e)
+  purged_if_says is_down ringlet l e = chosen (Each (Says f)) is_down (λ h. purged_says ringlet l e) (λ h. e)
 
-  swept-says : (t : Ticks) (x : Spans) (l : List Station) → Each (Says f) l → Each (Says f) (swept t x l)
+  swept_says : (t : Ticks) (x : Spans) (l : List Station) → Each (Says f) l → Each (Says f) (swept t x l)
   unfolding swept
-  swept-says t x l e =
+  swept_says t x l e =
       purged_if_says (down t x.east) 1 (purged_if (down t x.west) 0 l) (purged_if_says (down t x.west) 0 l e)
 
-  taking-says : (a : ℕ) (m : Meaning) (l : List Station) → Each (Says f) l → Each (Says f) (taking a m l).stations
-  taking-says a malformed l e = e
-  taking-says a (aside t) l e = given-says a (attributes_from (aside t)) l e
-  taking-says a (shows es) l e = given-says a (attributes_from (shows es)) l e
+  taking_says : (a : ℕ) (m : Meaning) (l : List Station) → Each (Says f) l → Each (Says f) (taking a m l).stations
+  taking_says a malformed l e = e
+  taking_says a (aside t) l e = given_says a (attributes_from (aside t)) l e
+  taking_says a (shows es) l e = given_says a (attributes_from (shows es)) l e
 
-  learning-says : (t : Ticks) (n a : ℕ) (m : Meaning) (x : Spans) (l : List Station) → Each (Says f) l
+  learning_says : (t : Ticks) (n a : ℕ) (m : Meaning) (x : Spans) (l : List Station) → Each (Says f) l
       → Each (Says f) (learning t n a m x l).stations
   unfolding learning
-  learning-says t n a m x l e = go (down t (span_of n x)) (present a l)
+  learning_says t n a m x l e = go (down t (span_of n x)) (present a l)
     where
       go : (d p : Bool) → Each (Says f) (cond {A = Placed} d (gives 21 l) (cond p (taking a m l) (gives 7 l))).stations
       go true p = e
-      go false true = taking-says a m l e
+      go false true = taking_says a m l e
       go false false = e
 
 -- What is said once a report was taken, as news or as a copy.
@@ -113,10 +113,10 @@ module _ (f : ℕ → Option Ends) (p : Report) where
   copy_says s e = rw (and-false (eqb s.address p.address)) e
 
   -- A known station is renewed: by a copy it keeps its requests, by news it has those of the report.
-  known-says : (d : ℕ) (l : List Station) → Each (Says f) l
+  known_says : (d : ℕ) (l : List Station) → Each (Says f) l
       → Each (Says (heard_from p (not (eqb d 0)) f)) (renewed p.address (heard_again d p) l)
-  known-says d =
-      renewed-each p.address (heard_again d p) (Says f) (Says (heard_from p (not (eqb d 0)) f))
+  known_says d =
+      renewed_each p.address (heard_again d p) (Says f) (Says (heard_from p (not (eqb d 0)) f))
       (λ s at e. go s at e (eqb d 0)) (λ s away e. away_says (not (eqb d 0)) s away e)
     where
       go : (s : Station) → s.address ≡ p.address → Says f s → (copy : Bool)
@@ -125,9 +125,9 @@ module _ (f : ℕ → Option Ends) (p : Report) where
       go s at e false = rw (eq-eqb s.address p.address at)
 
   -- A new station has those of the report.
-  new-says : (l : List Station) → Nobody p.address l → Each (Says f) l → Each (Says (heard_from p true f)) (inserted (newcomer p) l)
-  new-says l nobody e =
-      inserted-each (newcomer p) (Says (heard_from p true f)) (rw (eq-eqb p.address p.address refl)) l
+  new_says : (l : List Station) → Nobody p.address l → Each (Says f) l → Each (Says (heard_from p true f)) (inserted (newcomer p) l)
+  new_says l nobody e =
+      inserted_each (newcomer p) (Says (heard_from p true f)) (rw (eq-eqb p.address p.address refl)) l
       (each_both (λ (x : Station). x.address ≡ p.address → ⊥) (Says f) (Says (heard_from p true f)) (away_says true) l nobody e)
 
 -- What is said after a record that was read as r and got the result n; `before` are the stations before it.
@@ -140,55 +140,55 @@ quiet true o = refl
 quiet false o = refl
 
 module _ (f : ℕ → Option Ends) (l : List Station) (e : Each (Says f) l) where
-  placed-says : (n : ℕ) (p : Report) → Each (Says (saying_now (Heard n p) (placed p l).result l f)) (placed p l).stations
-  placed-says n p =
+  placed_says : (n : ℕ) (p : Report) → Each (Says (saying_now (Heard n p) (placed p l).result l f)) (placed p l).stations
+  placed_says n p =
       placed-ends (λ (x : Placed). Each (Says (saying_now (Heard n p) x.result l f)) x.stations) p l
-      (λ stored is near. taken (some stored) is _ (known-says f p (distance p.sequence stored) (displaced p l) rest)) (λ stored is far. e)
-      (λ is. taken none is _ (new-says f p (displaced p l) (displaced_nobody p p.address l (unknown_nobody p.address l is)) rest))
+      (λ stored is near. taken (some stored) is _ (known_says f p (distance p.sequence stored) (displaced p l) rest)) (λ stored is far. e)
+      (λ is. taken none is _ (new_says f p (displaced p l) (displaced_nobody p p.address l (unknown_nobody p.address l is)) rest))
     where
       rest : Each (Says f) (displaced p l)
-      rest = displaced-says f p l e
+      rest = displaced_says f p l e
 
       -- o is the sequence known before, by which the report is news
       taken : (o : Option ℕ) → sequence_of p.address l ≡ o → (m : List Station) → Each (Says (heard_from p (is_news p.sequence o) f)) m
           → Each (Says (saying_now (Heard n p) 0 l f)) m
       taken o is m = subst (λ (u : Option ℕ). Each (Says (heard_from p (is_news p.sequence u) f)) m) (sym is)
 
-  hearing-says : (t : Ticks) (n : ℕ) (p : Report) (x : Spans)
+  hearing_says : (t : Ticks) (n : ℕ) (p : Report) (x : Spans)
       → Each (Says (saying_now (Heard n p) (hearing t n p x l).result l f)) (hearing t n p x l).stations
   unfolding hearing
-  hearing-says t n p x = go (eqb p.ringlet n) (down t (span_of n x))
+  hearing_says t n p x = go (eqb p.ringlet n) (down t (span_of n x))
     where
       P : Placed → Type 0
       P j = Each (Says (saying_now (Heard n p) j.result l f)) j.stations
 
       go : (a b : Bool) → P (cond {A = Placed} a (cond b (gives 21 l) (placed p l)) (gives 20 l))
       go true true = e
-      go true false = placed-says n p
+      go true false = placed_says n p
       go false b = e
 
-  judged-says : (c : Choice) (r : Reading) (b : List ℕ) (x : Spans)
+  judged_says : (c : Choice) (r : Reading) (b : List ℕ) (x : Spans)
       → Each (Says (saying_now r (judged c r b x l).result l f)) (judged c r b x l).stations
   unfolding judged
-  judged-says c (Refused k) b x = still-says f _ (λ a. quiet (eqb k 0) (f a)) l e
-  judged-says c Tick b x = aged-says f c.ticks.forget l e
-  judged-says c (Link n status) b x = e
-  judged-says c (Keepalive n) b x = e
-  judged-says c (Operator n request) b x = e
-  judged-says c (Heard n p) b x = hearing-says c.ticks n p x
-  judged-says c (Block n a) b x =
-      still-says f _ (λ a'. quiet (eqb (learning c.ticks n a (meaning c.known b) x l).result 0) (f a')) _
-      (learning-says f c.ticks n a (meaning c.known b) x l e)
+  judged_says c (Refused k) b x = still_says f _ (λ a. quiet (eqb k 0) (f a)) l e
+  judged_says c Tick b x = aged_says f c.ticks.forget l e
+  judged_says c (Link n status) b x = e
+  judged_says c (Keepalive n) b x = e
+  judged_says c (Operator n request) b x = e
+  judged_says c (Heard n p) b x = hearing_says c.ticks n p x
+  judged_says c (Block n a) b x =
+      still_says f _ (λ a'. quiet (eqb (learning c.ticks n a (meaning c.known b) x l).result 0) (f a')) _
+      (learning_says f c.ticks n a (meaning c.known b) x l e)
 
 -- A refusal is not 0.
 refusal-not_0 : (n : ℕ) → refusal n ≡ true → eqb n 0 ≡ false
 refusal-not_0 n h = ne_eqb n 0 (λ z. omega (arith, leb-true 1 n ((and-eq-true_iff (leb 1 n) (leb n 8)).0 h).0))
 
 -- The whole call: refused, it leaves all as it was; else the closing steps may purge.
-outcome-says : (r : Reading) (b : List ℕ) (s : State) (f : ℕ → Option Ends) → Each (Says f) s.stations
+outcome_says : (r : Reading) (b : List ℕ) (s : State) (f : ℕ → Option Ends) → Each (Says f) s.stations
     → Each (Says (saying_now r (outcome_of r b s).result s.stations f)) (outcome_of r b s).state.stations
 unfolding outcome_of closed
-outcome-says r b s f e = go (refusal j.result) refl
+outcome_says r b s f e = go (refusal j.result) refl
   where
     x : Spans
     x = acted s.choice.ticks r s.spans
@@ -200,30 +200,30 @@ outcome-says r b s f e = go (refusal j.result) refl
     P o = Each (Says (saying_now r o.result s.stations f)) o.state.stations
 
     go : (c : Bool) → refusal j.result ≡ c → P (cond {A = Outcome} c (refuses j.result s) (closed s (is_tick r) x j))
-    go true q = still-says f _ (λ a. rw (refusal-not_0 j.result q)) s.stations e
+    go true q = still_says f _ (λ a. rw (refusal-not_0 j.result q)) s.stations e
     go false q =
-        swept-says (saying_now r j.result s.stations f) s.choice.ticks (settled s.choice.ticks s.spans x) j.stations
-        (judged-says f s.stations e s.choice r b x)
+        swept_says (saying_now r j.result s.stations f) s.choice.ticks (settled s.choice.ticks s.spans x) j.stations
+        (judged_says f s.stations e s.choice r b x)
 
 -- A station of the table is in it.
-each-present : (l : List Station) → Each (λ (x : Station). present x.address l ≡ true) l
+each_present : (l : List Station) → Each (λ (x : Station). present x.address l ≡ true) l
 unfolding Each present
-each-present [] = tt
-each-present (s ∷ l) = (
+each_present [] = tt
+each_present (s ∷ l) = (
   rw (eq-eqb s.address s.address refl),
   each_map (λ (x : Station). present x.address l ≡ true) (λ (x : Station). eqb s.address x.address || present x.address l ≡ true)
-      (λ x h. rw h (or-true (eqb s.address x.address))) l (each-present l),
+      (λ x h. rw h (or-true (eqb s.address x.address))) l (each_present l),
 )
 
 -- So what is said of it now is what the call left.
-pub call-says : (r : Reading) (b : List ℕ) (s : State) (f : ℕ → Option Ends) → Each (Says f) s.stations
+pub call_says : (r : Reading) (b : List ℕ) (s : State) (f : ℕ → Option Ends) → Each (Says f) s.stations
     → Each (Says (λ (a : ℕ). said_now r (outcome_of r b s).result s.stations (outcome_of r b s).state.stations a (f a)))
     (outcome_of r b s).state.stations
 unfolding said_now
-call-says r b s f e = there (outcome_of r b s).result (outcome_of r b s).state.stations (outcome-says r b s f e)
+call_says r b s f e = there (outcome_of r b s).result (outcome_of r b s).state.stations (outcome_says r b s f e)
   where
     there : (n : ℕ) (l : List Station) → Each (Says (saying_now r n s.stations f)) l
         → Each (Says (λ (a : ℕ). said_now r n s.stations l a (f a))) l
     there n l =
         each_both (λ (x : Station). present x.address l ≡ true) (Says (saying_now r n s.stations f))
-        (Says (λ (a : ℕ). said_now r n s.stations l a (f a))) (λ x is w. rw is w) l (each-present l)
+        (Says (λ (a : ℕ). said_now r n s.stations l a (f a))) (λ x is w. rw is w) l (each_present l)

@@ -8,19 +8,19 @@ use Rattle.pacer.proofs.steps.Pacer as Pacer
 use Rattle.promises.specs.Paces.{pace_promise}
 use Rattle.promises.specs.Unique.{Fixes, FixesPart}
 
-pub pacer-at-start_unique : Fixes Pacer_contract.at_start.ended Pacer.at_start.Reads.ensures Pacer.at_start.Reads.Post
-pacer-at-start_unique = (λ w κs a x e. refl, λ κs a x y e f p q. p ∙ sym q)
+pub pacer_at_start_unique : Fixes Pacer_contract.at_start.ended Pacer.at_start.Reads.ensures Pacer.at_start.Reads.Post
+pacer_at_start_unique = (λ w κs a x e. refl, λ κs a x y e f p q. p ∙ sym q)
 
 pub pace_copy_unique : Fixes pacer_contract.pace_copy.ended pacer.pace_copy.Reads.ensures pacer.pace_copy.Reads.Post
 pace_copy_unique = (λ w κs a x e. refl, λ κs a x y e f p q. p ∙ sym q)
 
 -- `pace` lends a struct, so no plain type is generated for it: the clause is written out, as it stands at each model.
-pub pace-unique :
+pub pace_unique :
     Fixes pacer_contract.pace.ended
     (λ κs a g x e w. (pacer_contract.pace.clauses w.𝓛 w.𝓜.mem w.𝓡.run κs a).ensures g x e) pace_promise
-pace-unique = (λ w κs a x e. refl, λ κs a x y e f p q. p.1 ∙ sym q.1)
+pace_unique = (λ w κs a x e. refl, λ κs a x y e f p q. p.1 ∙ sym q.1)
 
-pub pace-content-unique :
+pub pace_content_unique :
     FixesPart pacer_contract.pace.ended (λ κs. Pacer) (λ κs x e. e.0.now)
     (λ κs a g x e w. (pacer_contract.pace.clauses w.𝓛 w.𝓜.mem w.𝓡.run κs a).ensures g x e) pace_promise
-pace-content-unique = (λ w κs a x e. refl, λ κs a x y e f p q. p.0 ∙ sym q.0)
+pace_content_unique = (λ w κs a x e. refl, λ κs a x y e f p q. p.0 ∙ sym q.0)

@@ -8,14 +8,14 @@ use Rattle.settings.specs.contracts.units as units_contract
 use Rattle.settings.proofs.units as units
 use Rattle.promises.specs.Unique.{Fixes}
 
-pub settings_default_for_unique : Fixes Settings_contract.default_for.ended Settings.default_for.Reads.ensures Settings.default_for.Reads.Post
-settings_default_for_unique = (λ w κs a x e. refl, λ κs a x y e f p q. p ∙ sym q)
+pub settings-default_for_unique : Fixes Settings_contract.default_for.ended Settings.default_for.Reads.ensures Settings.default_for.Reads.Post
+settings-default_for_unique = (λ w κs a x e. refl, λ κs a x y e f p q. p ∙ sym q)
 
 pub settings-ticks_unique : Fixes Settings_contract.ticks.ended Settings.ticks.Reads.ensures Settings.ticks.Reads.Post
 settings-ticks_unique = (λ w κs a x e. refl, λ κs a x y e f p q. p ∙ sym q)
 
-pub read-settings_unique : Fixes settings_contract.read_settings.ended settings.read_settings.Reads.ensures settings.read_settings.Reads.Post
-read-settings_unique = (λ w κs a x e. refl, λ κs a x y e f p q. p ∙ sym q)
+pub read_settings_unique : Fixes settings_contract.read_settings.ended settings.read_settings.Reads.ensures settings.read_settings.Reads.Post
+read_settings_unique = (λ w κs a x e. refl, λ κs a x y e f p q. p ∙ sym q)
 
 pub seconds-ticks_unique : Fixes units_contract.Seconds.ticks.ended units.Seconds.ticks.Reads.ensures units.Seconds.ticks.Reads.Post
 seconds-ticks_unique = (λ w κs a x e. refl, λ κs a x y e f p q. p ∙ sym q)

@@ -6,8 +6,8 @@ use Rattle.spans.specs.contracts.span.Span as Span_contract
 use Rattle.spans.proofs.span.Span as Span
 use Rattle.promises.specs.Unique.{Fixes}
 
-pub span-at-start_unique : Fixes Span_contract.at_start.ended Span.at_start.Reads.ensures Span.at_start.Reads.Post
-span-at-start_unique = (λ w κs a x e. refl, λ κs a x y e f p q. p ∙ sym q)
+pub span_at_start_unique : Fixes Span_contract.at_start.ended Span.at_start.Reads.ensures Span.at_start.Reads.Post
+span_at_start_unique = (λ w κs a x e. refl, λ κs a x y e f p q. p ∙ sym q)
 
 pub link_unique : Fixes spans_contract.link.ended spans.link.Reads.ensures spans.link.Reads.Post
 link_unique = (λ w κs a x e. refl, λ κs a x y e f p q. p ∙ sym q)

@@ -4,8 +4,8 @@ use Rattle.ways.specs.contracts as ways_contract
 use Rattle.ways.proofs as ways
 use Rattle.promises.specs.Unique.{Fixes}
 
-pub way-to_unique : Fixes ways_contract.way_to.ended ways.way_to.Reads.ensures ways.way_to.Reads.Post
-way-to_unique = (λ w κs a x e. refl, λ κs a x y e f p q. p ∙ sym q)
+pub way_to_unique : Fixes ways_contract.way_to.ended ways.way_to.Reads.ensures ways.way_to.Reads.Post
+way_to_unique = (λ w κs a x e. refl, λ κs a x y e f p q. p ∙ sym q)
 
 pub number_unique : Fixes ways_contract.number.ended ways.number.Reads.ensures ways.number.Reads.Post
 number_unique = (λ w κs a x e. refl, λ κs a x y e f p q. p ∙ sym q)

@@ -6,8 +6,8 @@ use Rattle.wire.specs.contracts as wire_contract
 use Rattle.wire.proofs as wire
 use Rattle.promises.specs.Unique.{Fixes, FixesPart}
 
-pub byte-at_unique : Fixes wire_contract.byte_at.ended wire.byte_at.Reads.ensures wire.byte_at.Reads.Post
-byte-at_unique = (λ w κs a x e. refl, λ κs a x y e f p q. p ∙ sym q)
+pub byte_at_unique : Fixes wire_contract.byte_at.ended wire.byte_at.Reads.ensures wire.byte_at.Reads.Post
+byte_at_unique = (λ w κs a x e. refl, λ κs a x y e f p q. p ∙ sym q)
 
 pub word_at_unique : Fixes wire_contract.word_at.ended wire.word_at.Reads.ensures wire.word_at.Reads.Post
 word_at_unique = (λ w κs a x e. refl, λ κs a x y e f p q. p ∙ sym q)
@@ -18,11 +18,11 @@ high_word_at_unique = (λ w κs a x e. refl, λ κs a x y e f p q. p ∙ sym q)
 pub joined_unique : Fixes wire_contract.joined.ended wire.joined.Reads.ensures wire.joined.Reads.Post
 joined_unique = (λ w κs a x e. refl, λ κs a x y e f p q. p ∙ sym q)
 
-pub address-at_unique : Fixes wire_contract.address_at.ended wire.address_at.Reads.ensures wire.address_at.Reads.Post
-address-at_unique = (λ w κs a x e. refl, λ κs a x y e f p q. p ∙ sym q)
+pub address_at_unique : Fixes wire_contract.address_at.ended wire.address_at.Reads.ensures wire.address_at.Reads.Post
+address_at_unique = (λ w κs a x e. refl, λ κs a x y e f p q. p ∙ sym q)
 
-pub odd-first_unique : Fixes wire_contract.odd_first.ended wire.odd_first.Reads.ensures wire.odd_first.Reads.Post
-odd-first_unique = (λ w κs a x e. refl, λ κs a x y e f p q. p ∙ sym q)
+pub odd_first_unique : Fixes wire_contract.odd_first.ended wire.odd_first.Reads.ensures wire.odd_first.Reads.Post
+odd_first_unique = (λ w κs a x e. refl, λ κs a x y e f p q. p ∙ sym q)
 
 pub broken_unique : Fixes wire_contract.broken.ended wire.broken.Reads.ensures wire.broken.Reads.Post
 broken_unique = (λ w κs a x e. refl, λ κs a x y e f p q. p ∙ sym q)
@@ -34,10 +34,10 @@ read_head_unique = (λ w κs a x e. refl, λ κs a x y e f p q. p ∙ sym q)
 pub body_unique : FixesPart wire_contract.body.ended (λ κs. List ℕ) (λ κs x e. x.now) wire.body.Reads.ensures wire.body.Reads.Post
 body_unique = (λ w κs a x e. refl, λ κs a x y e f p q. p ∙ sym q)
 
-pub put-report_unique : Fixes wire_contract.put_report.ended wire.put_report.Reads.ensures wire.put_report.Reads.Post
-put-report_unique = (λ w κs a x e. refl, λ κs a x y e f p q. p.room ∙ sym q.room)
+pub put_report_unique : Fixes wire_contract.put_report.ended wire.put_report.Reads.ensures wire.put_report.Reads.Post
+put_report_unique = (λ w κs a x e. refl, λ κs a x y e f p q. p.room ∙ sym q.room)
 
-pub put-report-content-unique :
+pub put_report_content_unique :
     FixesPart wire_contract.put_report.ended (λ κs. List ℕ) (λ κs x e. e.0.now)
     wire.put_report.Reads.ensures wire.put_report.Reads.Post
-put-report-content-unique = (λ w κs a x e. refl, λ κs a x y e f p q. p.content ∙ sym q.content)
+put_report_content_unique = (λ w κs a x e. refl, λ κs a x y e f p q. p.content ∙ sym q.content)

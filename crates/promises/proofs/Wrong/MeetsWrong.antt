@@ -6,11 +6,11 @@ use Prim.Native.Nat.{ℕ}
 use Rattle.promises.specs.Examples.{tick, link, report, settings, p7, p10, p11, p12}
 use Rattle.promises.specs.Possible.{are_bytes, all_bytes}
 use Rattle.promises.specs.Drilled.{calls_for, Runs}
-use Rattle.promises.proofs.Demand2.Possible.{are_bytes_lem, all-bytes}
-use Rattle.promises.proofs.Demand2.Drilling.{drill-runs}
+use Rattle.promises.proofs.Demand2.Possible.{are_bytes_lem, all_bytes_lem}
+use Rattle.promises.proofs.Demand2.Drilling.{drill_runs}
 
 runs : (start : List ℕ) (l : List (List ℕ)) → are_bytes start ≡ true → all_bytes (calls_for l) ≡ true → Runs start l
-runs start l bytes all = drill-runs start l (are_bytes_lem start bytes) (all-bytes (calls_for l) all)
+runs start l bytes all = drill_runs start l (are_bytes_lem start bytes) (all_bytes_lem (calls_for l) all)
 
 pub one_record : Runs (settings 2 0) (link 0 2 ∷ []) × Runs (settings 2 0) (tick ∷ []) × Runs (settings 2 0) (report 0 255 2 1 0 0 ∷ [])
 unfolding are_bytes all_bytes

@@ -9,7 +9,7 @@ use lib.ListN.{length, take}
 use Rattle.wire.specs.Fields.{address_at}
 use Rattle.wire.specs.Head.{broken, head_of}
 use Rattle.wire.specs.Report.{report_bytes, over}
-use Rattle.wire.proofs.ReadsBack.{front-is-report}
+use Rattle.wire.proofs.ReadsBack.{front_is_report}
 use Rattle.settings.specs.Ticks.{ticks_of}
 use Rattle.settings.specs.Ranges.{in_range}
 use Rattle.settings.specs.Reading.{fields_of, full_in, settings_in}
@@ -126,12 +126,12 @@ report-made_up st m d =
     ⊎_elim (λ told. told none) (λ other. other (demand2_silent (settings 2 0) st d.begun [] m d.met none))
 
 -- .. and one kept back, or another one written, where there is one.
-pub report-kept_back : (st : Started) (m : Made) → Drilled (settings 2 0) (link 0 2 ∷ []) st (m ∷ [])
+pub report_kept_back : (st : Started) (m : Made) → Drilled (settings 2 0) (link 0 2 ∷ []) st (m ∷ [])
     → (m.answer.reports ≡ 1 → ⊥) ⊎ (take 7 m.new ≡ report_bytes 1 4 0 → ⊥) → ⊥
 unfolding report_bytes
-report-kept_back st m d =
+report_kept_back st m d =
     let one : m.answer.reports ≡ 1 = (drill-answer d).written ∙ ap reports_in due.told in
     let bytes : m.new ≡ over (report_bytes 1 4 0) m.old =
     (drill-answer d).content ∙ ap (λ (x : List ℕ). over x m.old) due.told in
     ⊎_elim (λ kept. kept one)
-    (λ other. other (ap (take 7) bytes ∙ front-is-report 1 4 0 m.old (omega (arith, drill-room d))))
+    (λ other. other (ap (take 7) bytes ∙ front_is_report 1 4 0 m.old (omega (arith, drill-room d))))

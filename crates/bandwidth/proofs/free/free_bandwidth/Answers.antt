@@ -1,6 +1,6 @@
 -- The refusals in their order, then the sums of the one pass. Assumes nothing.
 use mathlib.Core.Path.{refl, ◌∙◌}
-use Rattle.controller.proofs.Nodes.{kept-rows}
+use Rattle.controller.proofs.Nodes.{kept_rows}
 use Rattle.bandwidth.specs.Free.{answered}
 use Rattle.bandwidth.proofs.Differences.{read_back}
 use Rattle.bandwidth.proofs.Summing.{sums_low}
@@ -16,7 +16,7 @@ returns-then-level-lt-LOWEST_LEVEL c =
 
 pub add_up-sums-requires : goal.add_up-sums-requires
 add_up-sums-requires c =
-    kept-rows c.requires
+    kept_rows c.requires
 
 pub returns-then-sums : goal.returns-then-sums
 returns-then-sums c =
@@ -25,15 +25,15 @@ returns-then-sums c =
 
 pub unreserved-requires : goal.unreserved-requires
 unreserved-requires c =
-    (c.if-rate-gt-HIGHEST_RATE.false, (sums_low (kept-rows c.requires) c.add_up-sums.ensures).0)
+    (c.if-rate-gt-HIGHEST_RATE.false, (sums_low (kept_rows c.requires) c.add_up-sums.ensures).0)
 
 pub unreserved-requires-2 : goal.unreserved-requires-2
 unreserved-requires-2 c =
-    (c.if-rate-gt-HIGHEST_RATE.false, (sums_low (kept-rows c.requires) c.add_up-sums.ensures).1)
+    (c.if-rate-gt-HIGHEST_RATE.false, (sums_low (kept_rows c.requires) c.add_up-sums.ensures).1)
 
 pub returns : goal.returns
 returns c =
-    let low = sums_low (kept-rows c.requires) c.add_up-sums.ensures in
+    let low = sums_low (kept_rows c.requires) c.add_up-sums.ensures in
     c.answer.ensures
     ∙ (λ i. answered (read_back c.if-rate-gt-HIGHEST_RATE.false c.ranges.own0.fits low.0 c.unreserved.ensures i)
     (read_back c.if-rate-gt-HIGHEST_RATE.false c.ranges.own1.fits low.1 c.unreserved-2.ensures i))

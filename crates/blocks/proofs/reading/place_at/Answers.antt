@@ -2,12 +2,12 @@
 use native.Mathlib.Omega.{arith}
 use mathlib.Core.Path.{◌∙◌, ap}
 use Rattle.blocks.specs.Entries.{mandatory, ten_bits}
-use Rattle.blocks.proofs.Cuts.{at-end, at-short, at_past, at_item}
+use Rattle.blocks.proofs.Cuts.{at_end, at-short, at_past, at_item}
 use Rattle.blocks.proofs.reading.place_at.Goals as goal
 
 pub returns-then-n-eq0 : goal.returns-then-n-eq0
 returns-then-n-eq0 c =
-    at-end c.args.s.now c.args.at (omega arith)
+    at_end c.args.s.now c.args.at (omega arith)
 
 pub returns-then-n-lt-HEADS : goal.returns-then-n-lt-HEADS
 returns-then-n-lt-HEADS c =

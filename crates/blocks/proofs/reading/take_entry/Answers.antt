@@ -1,5 +1,5 @@
 -- A type that the level knows is taken, any other passed; either way what is still to come answers the same. Assumes nothing.
-use Rattle.blocks.proofs.Entering.{weights-entry, bandwidths-entry, pass_1, pass_2, pass-other}
+use Rattle.blocks.proofs.Entering.{weights-entry, bandwidths-entry, pass_1, pass_2, pass_other}
 use Rattle.blocks.proofs.reading.take_entry.Goals as goal
 
 pub returns-then-level-lt1 : goal.returns-then-level-lt1
@@ -15,4 +15,4 @@ pub returns-then-kind-eq-BANDWIDTHS : goal.returns-then-kind-eq-BANDWIDTHS
 returns-then-kind-eq-BANDWIDTHS c = λ es. bandwidths-entry c.args.level c.args.a c.args.must c.args.kind _ es c.if-kind-eq-BANDWIDTHS.true c.if-level-lt2.false c.take_bandwidths.ensures
 
 pub returns : goal.returns
-returns c = λ es. pass-other c.args.level c.args.a c.args.must c.args.kind _ es c.if-kind-eq-WEIGHTS.false c.if-kind-eq-BANDWIDTHS.false c.pass-2.ensures
+returns c = λ es. pass_other c.args.level c.args.a c.args.must c.args.kind _ es c.if-kind-eq-WEIGHTS.false c.if-kind-eq-BANDWIDTHS.false c.pass-2.ensures

@@ -3,15 +3,15 @@ use mathlib.Core.Path.{sym, ◌∙◌}
 use Rattle.stations.specs.Rows.{stations_in}
 use Rattle.stations.proofs.Places.{found_none, found_stands}
 use Rattle.controller.specs.Node.{asked}
-use Rattle.controller.proofs.Nodes.{kept-rows}
+use Rattle.controller.proofs.Nodes.{kept_rows}
 use Rattle.controller.proofs.ask.attributes.Goals as goal
 
 pub find_station-f-requires : goal.find_station-f-requires
-find_station-f-requires c = kept-rows c.requires
+find_station-f-requires c = kept_rows c.requires
 
 pub attributes_at-requires : goal.attributes_at-requires
 attributes_at-requires c =
-    kept-rows c.requires
+    kept_rows c.requires
 
 pub returns-in-Nothing : goal.returns-in-Nothing
 unfolding asked

@@ -1,7 +1,7 @@
 -- Seven words, read from where the span begins. Assumes nothing.
-use Rattle.controller.proofs.Packing.{span-from}
+use Rattle.controller.proofs.Packing.{span_from}
 use Rattle.controller.proofs.own.span_in.Goals as goal
 
 pub returns : goal.returns
 returns c =
-    span-from c.args.n c.args.own.now c.first_of-at.ensures.0
+    span_from c.args.n c.args.own.now c.first_of-at.ensures.0

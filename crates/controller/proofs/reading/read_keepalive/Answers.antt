@@ -1,5 +1,5 @@
 -- Wrong length, span, or a keepalive: one law for each return. Assumes nothing.
-use Rattle.controller.proofs.Bodies.{keepalive-length, keepalive-span, keepalive-said}
+use Rattle.controller.proofs.Bodies.{keepalive-length, keepalive_span, keepalive-said}
 use Rattle.controller.proofs.reading.read_keepalive.Goals as goal
 
 pub returns-then-b-ne-KEEPALIVE_BODY : goal.returns-then-b-ne-KEEPALIVE_BODY
@@ -8,7 +8,7 @@ returns-then-b-ne-KEEPALIVE_BODY c =
 
 pub returns-then-span-gt-LAST_SPAN : goal.returns-then-span-gt-LAST_SPAN
 returns-then-span-gt-LAST_SPAN c =
-    keepalive-span c.args.b.now c.if-b-ne-KEEPALIVE_BODY.false (rw c.byte_at-span.ensures at c.if-span-gt-LAST_SPAN.true)
+    keepalive_span c.args.b.now c.if-b-ne-KEEPALIVE_BODY.false (rw c.byte_at-span.ensures at c.if-span-gt-LAST_SPAN.true)
 
 pub returns : goal.returns
 returns c =

@@ -1,5 +1,5 @@
 -- Wrong length, span, status, or a link: one law for each return. Assumes nothing.
-use Rattle.controller.proofs.Bodies.{link-length, link-span, link_status, link-said}
+use Rattle.controller.proofs.Bodies.{link-length, link_span, link_status, link-said}
 use Rattle.controller.proofs.reading.read_link.Goals as goal
 
 pub returns-then-b-ne-LINK_BODY : goal.returns-then-b-ne-LINK_BODY
@@ -8,7 +8,7 @@ returns-then-b-ne-LINK_BODY c =
 
 pub returns-then-span-gt-LAST_SPAN : goal.returns-then-span-gt-LAST_SPAN
 returns-then-span-gt-LAST_SPAN c =
-    link-span c.args.b.now c.if-b-ne-LINK_BODY.false (rw c.byte_at-span.ensures at c.if-span-gt-LAST_SPAN.true)
+    link_span c.args.b.now c.if-b-ne-LINK_BODY.false (rw c.byte_at-span.ensures at c.if-span-gt-LAST_SPAN.true)
 
 pub returns-then-status-gt-FAILED : goal.returns-then-status-gt-FAILED
 returns-then-status-gt-FAILED c =

@@ -1,5 +1,5 @@
 -- Wrong length, span, request, or an operator: one law for each return. Assumes nothing.
-use Rattle.controller.proofs.Bodies.{operator-length, operator-span, operator-request, operator-said}
+use Rattle.controller.proofs.Bodies.{operator-length, operator_span, operator-request, operator-said}
 use Rattle.controller.proofs.reading.read_operator.Goals as goal
 
 pub returns-then-b-ne-OPERATOR_BODY : goal.returns-then-b-ne-OPERATOR_BODY
@@ -8,7 +8,7 @@ returns-then-b-ne-OPERATOR_BODY c =
 
 pub returns-then-span-gt-LAST_SPAN : goal.returns-then-span-gt-LAST_SPAN
 returns-then-span-gt-LAST_SPAN c =
-    operator-span c.args.b.now c.if-b-ne-OPERATOR_BODY.false (rw c.byte_at-span.ensures at c.if-span-gt-LAST_SPAN.true)
+    operator_span c.args.b.now c.if-b-ne-OPERATOR_BODY.false (rw c.byte_at-span.ensures at c.if-span-gt-LAST_SPAN.true)
 
 pub returns-then-is_listed : goal.returns-then-is_listed
 returns-then-is_listed c =

@@ -1,6 +1,6 @@
 -- A field out of range, the own address, a hop above 63, or a report: one law for each return. Assumes nothing.
 use mathlib.Core.Path.{sym, ◌∙◌}
-use Rattle.controller.proofs.Bodies.{report_range, report-own, report-far, report-said}
+use Rattle.controller.proofs.Bodies.{report_range, report_own, report-far, report-said}
 use Rattle.controller.proofs.reading.read_report.Goals as goal
 
 pub returns-then-not-report_fits : goal.returns-then-not-report_fits
@@ -9,7 +9,7 @@ returns-then-not-report_fits c =
 
 pub returns-then-address-own : goal.returns-then-address-own
 returns-then-address-own c =
-    report-own c.args.own c.args.b.now (sym c.report_fits.ensures ∙ c.if-not-report_fits.false) (sym
+    report_own c.args.own c.args.b.now (sym c.report_fits.ensures ∙ c.if-not-report_fits.false) (sym
     c.address_at-address.ensures ∙ c.if-address-own.true)
 
 pub returns-then-ttl-lt-LOWEST_TTL : goal.returns-then-ttl-lt-LOWEST_TTL

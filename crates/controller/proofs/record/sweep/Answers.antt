@@ -1,7 +1,7 @@
 -- West first, then east, each only where its span is down. Assumes nothing.
 use Rattle.stations.proofs.Telling.{purged-rows}
 use Rattle.controller.specs.Own.{ticks_on, spans_on}
-use Rattle.controller.proofs.Sweeping.{down_is, swept_both, swept-west, swept-east, swept_none}
+use Rattle.controller.proofs.Sweeping.{down_is, swept_both, swept_west, swept_east, swept_none}
 use Rattle.controller.proofs.record.sweep.Goals as goal
 
 pub purge_ringlet-requires-then-east : goal.purge_ringlet-requires-then-east
@@ -17,14 +17,14 @@ returns-then-east c =
 
 pub returns-else-east : goal.returns-else-east
 returns-else-east c =
-    swept-west c.requires (ticks_on c.args.own.now) (spans_on c.args.own.now)
+    swept_west c.requires (ticks_on c.args.own.now) (spans_on c.args.own.now)
     (down_is c.ticks_in-t.ensures c.span_in-2.ensures c.down.ensures c.if-down.true)
     (down_is c.ticks_in-t.ensures c.span_in.ensures c.down-east.ensures c.if-east.false)
     c.purge_ringlet.ensures
 
 pub returns-then-east-2 : goal.returns-then-east-2
 returns-then-east-2 c =
-    swept-east c.requires (ticks_on c.args.own.now) (spans_on c.args.own.now)
+    swept_east c.requires (ticks_on c.args.own.now) (spans_on c.args.own.now)
     (down_is c.ticks_in-t.ensures c.span_in-2.ensures c.down.ensures c.if-down.false)
     (down_is c.ticks_in-t.ensures c.span_in.ensures c.down-east.ensures c.if-east-2.true)
     c.purge_ringlet-then-east-2.ensures

@@ -1,18 +1,18 @@
 -- Each step reads the words that the one before it left. Assumes nothing.
 use mathlib.Core.Path.{sym, ◌∙◌}
-use Rattle.controller.proofs.Nodes.{kept-own, kept-rows}
-use Rattle.controller.proofs.Records.{own_held, forget-fits, reading-fits, refused, rows-kept, taken}
+use Rattle.controller.proofs.Nodes.{kept_own, kept_rows}
+use Rattle.controller.proofs.Records.{own_held, forget_fits, reading_fits, refused, rows_kept, taken}
 use Rattle.controller.proofs.record.take_reading.Goals as goal
 
 pub act-requires : goal.act-requires
 act-requires c =
-    kept-own c.requires.0
+    kept_own c.requires.0
 
 pub judge-result-requires : goal.judge-result-requires
 judge-result-requires c = (
-  kept-rows c.requires.0,
-  forget-fits c.requires.0 c.args.r c.args.block.now c.act.ensures,
-  reading-fits c.requires.0 c.args.r c.args.block.now c.act.ensures c.requires.1,
+  kept_rows c.requires.0,
+  forget_fits c.requires.0 c.args.r c.args.block.now c.act.ensures,
+  reading_fits c.requires.0 c.args.r c.args.block.now c.act.ensures c.requires.1,
 )
 
 pub returns-then-is_refusal : goal.returns-then-is_refusal
@@ -26,7 +26,7 @@ report_requests-reports-requires c =
 
 pub sweep-requires : goal.sweep-requires
 sweep-requires c =
-    rows-kept c.requires.0 c.args.r c.args.block.now c.act.ensures c.judge-result.ensures
+    rows_kept c.requires.0 c.args.r c.args.block.now c.act.ensures c.judge-result.ensures
     c.requires.1 (λ i. (c.shared_slice_known-1.given i).fits)
 
 pub returns : goal.returns

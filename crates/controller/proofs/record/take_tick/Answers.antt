@@ -3,18 +3,18 @@ use mathlib.Core.List.{[]}
 use Rattle.controller.specs.Handling.{judged}
 use Rattle.controller.specs.Reading.{Tick}
 use Rattle.controller.proofs.Holding.{no_bytes}
-use Rattle.controller.proofs.Nodes.{kept-own, kept-rows}
-use Rattle.controller.proofs.Records.{own_held, forget-fits, rows-kept, tick-taken}
+use Rattle.controller.proofs.Nodes.{kept_own, kept_rows}
+use Rattle.controller.proofs.Records.{own_held, forget_fits, rows_kept, tick-taken}
 use Rattle.controller.proofs.Ticking.{tick-behind}
 use Rattle.controller.proofs.record.take_tick.Goals as goal
 
 pub on_tick-requires : goal.on_tick-requires
 on_tick-requires c =
-    kept-own c.requires.0
+    kept_own c.requires.0
 
 pub forget-requires : goal.forget-requires
 forget-requires c =
-    (kept-rows c.requires.0, forget-fits c.requires.0 Tick [] c.on_tick.ensures)
+    (kept_rows c.requires.0, forget_fits c.requires.0 Tick [] c.on_tick.ensures)
 
 pub report_tick-reports-requires : goal.report_tick-reports-requires
 report_tick-reports-requires c =
@@ -23,7 +23,7 @@ report_tick-reports-requires c =
 pub sweep-requires : goal.sweep-requires
 unfolding judged
 sweep-requires c =
-    rows-kept c.requires.0 Tick [] c.on_tick.ensures c.forget.ensures tt no_bytes
+    rows_kept c.requires.0 Tick [] c.on_tick.ensures c.forget.ensures tt no_bytes
 
 pub returns : goal.returns
 returns c =

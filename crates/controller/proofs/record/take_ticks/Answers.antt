@@ -1,6 +1,6 @@
 -- What the ticks left will do, from the node and the buffer as they are, is what the whole lacks. Assumes nothing.
 use native.Mathlib.Omega.{arith}
-use Rattle.controller.proofs.Ticking.{begins, turn, turn-fits, done}
+use Rattle.controller.proofs.Ticking.{begins, turn, turn_fits, done}
 use Rattle.controller.proofs.record.take_ticks.Goals as goal
 
 pub loop-left-init : goal.loop-left-init
@@ -12,7 +12,7 @@ take_tick-reports-requires c =
 
 pub overflow_add-reports : goal.overflow_add-reports
 overflow_add-reports c =
-    record { fits = omega (arith, turn-fits c.loop-left.invariant c.loop-left-test.true (rw c.room_for-at.ensures at c.take_tick-reports.ensures), c.ranges.ticks) }
+    record { fits = omega (arith, turn_fits c.loop-left.invariant c.loop-left-test.true (rw c.room_for-at.ensures at c.take_tick-reports.ensures), c.ranges.ticks) }
 
 pub loop-left-preserved : goal.loop-left-preserved
 loop-left-preserved c =

@@ -2,7 +2,7 @@
 use Prim.Native.Nat.{ℕ, ◌+◌, ◌-◌}
 use mathlib.Core.List.{List, ◌++◌}
 use lib.ListN.{drop}
-use Rattle.drill.proofs.Firsts.{whole-first, both}
+use Rattle.drill.proofs.Firsts.{whole_first, both}
 -- The two parts lie within the buffer of 1,035 bytes. Assumes nothing.
 use lib.ListN.{length-take, length-append, length-drop}
 use native.Mathlib.Omega.{arith}
@@ -18,4 +18,4 @@ returns c =
     let head : List ℕ = c.read_full-got.new.buf ++ drop 2 c.args.buf.now in
     let rest : List ℕ = c.read_full-body.new.buf ++ drop (n + 2 - 2) (drop 2 head) in
     both (search rules)
-    (λ h. whole-first head rest n c.word_at-length.ensures (search rules) (search rules) h (simp (length-append, length-drop) (omega arith)))
+    (λ h. whole_first head rest n c.word_at-length.ensures (search rules) (search rules) h (simp (length-append, length-drop) (omega arith)))

@@ -1,5 +1,5 @@
 -- Each arm is a case of what was read. Assumes nothing.
-use Rattle.drill.proofs.Stepping.{front_length, nothing-start, cut-start, whole-start}
+use Rattle.drill.proofs.Stepping.{front_length, nothing-start, cut-start, whole_start}
 use Rattle.drill.proofs.turn.begin.Goals as goal
 
 pub slice_bounds-start-end-in-Whole : goal.slice_bounds-start-end-in-Whole
@@ -16,4 +16,4 @@ returns-in-Cut c =
 
 pub returns-in-Whole : goal.returns-in-Whole
 returns-in-Whole c =
-    whole-start c.args.buf.now _ c.in-Whole.is c.start-in-Whole.ensures c.tell_start-in-Whole.ensures
+    whole_start c.args.buf.now _ c.in-Whole.is c.start-in-Whole.ensures c.tell_start-in-Whole.ensures

@@ -1,6 +1,6 @@
 -- Each arm is a case of what was read. Assumes nothing.
 use Rattle.controller.specs.Node.{node}
-use Rattle.drill.proofs.Stepping.{nothing-turn, cut-turn, whole-turn, front_length}
+use Rattle.drill.proofs.Stepping.{nothing-turn, cut-turn, whole_turn, front_length}
 use Rattle.drill.proofs.turn.take_turn.Goals as goal
 
 pub slice_bounds-step-end : goal.slice_bounds-step-end
@@ -21,4 +21,4 @@ returns-in-Cut c =
 pub returns-in-Whole : goal.returns-in-Whole
 returns-in-Whole c =
     let n = node c.args.own.now c.args.rows.now in
-    whole-turn c.args.number n c.args.buf.now _ c.in-Whole.is c.step.ensures
+    whole_turn c.args.number n c.args.buf.now _ c.in-Whole.is c.step.ensures

@@ -1,7 +1,7 @@
 -- The pass goes on from where somebody leaves; told of the words at entry. Assumes nothing.
 use Rattle.stations.proofs.Passing.{Passing, passing_end, passing_dropped, passing_stayed, passing_moved}
 use Rattle.stations.proofs.Raising.{goes_on_lem}
-use Rattle.stations.proofs.Reading.{count-few}
+use Rattle.stations.proofs.Reading.{count_few}
 use Rattle.stations.specs.Rows.{RaisedTo, RowsHeld, stations_in}
 use Rattle.stations.specs.Stations.{young, aged}
 use Rattle.stations.specs.Station.{older}
@@ -21,17 +21,17 @@ loop-i-init c = λ w kept n start. start
 
 pub age_in-a-requires : goal.age_in-a-requires
 age_in-a-requires c =
-    omega (arith, count-few c.requires.held, c.count-n.ensures)
+    omega (arith, count_few c.requires.held, c.count-n.ensures)
 
 pub overflow_add-j : goal.overflow_add-j
 overflow_add-j c =
     let at = c.loop-i.invariant _ c.requires.held c.count-n.ensures (begun _ _ c.requires.held c.raise_young-i.ensures) in
-    record { fits = omega (arith, count-few c.requires.held, c.count-n.ensures, at.pass.low) }
+    record { fits = omega (arith, count_few c.requires.held, c.count-n.ensures, at.pass.low) }
 
 pub raise_age-requires : goal.raise_age-requires
 raise_age-requires c =
     let young = sym c.is_young.ensures ∙ c.if-is_young.true in
-    (omega (arith, count-few c.requires.held, c.count-n.ensures), omega (arith, ltb-true, c.age_in-a.ensures))
+    (omega (arith, count_few c.requires.held, c.count-n.ensures), omega (arith, ltb-true, c.age_in-a.ensures))
 
 pub loop-i-preserved-then-to-k : goal.loop-i-preserved-then-to-k
 loop-i-preserved-then-to-k c =
@@ -41,7 +41,7 @@ loop-i-preserved-then-to-k c =
 pub move_older-requires : goal.move_older-requires
 move_older-requires c =
     let young = sym c.is_young.ensures ∙ c.if-is_young.true in
-    let few = count-few c.requires.held in
+    let few = count_few c.requires.held in
     let at = c.loop-i.invariant _ c.requires.held c.count-n.ensures (begun _ _ c.requires.held c.raise_young-i.ensures) in
     (omega (arith, few, c.count-n.ensures, at.pass.low), omega (arith, few, c.count-n.ensures), omega (arith, ltb-true, c.age_in-a.ensures))
 
@@ -52,7 +52,7 @@ loop-i-preserved-else-to-k c =
 
 pub clear_place-requires : goal.clear_place-requires
 clear_place-requires c =
-    omega (arith, count-few c.requires.held, c.count-n.ensures)
+    omega (arith, count_few c.requires.held, c.count-n.ensures)
 
 pub loop-i-preserved : goal.loop-i-preserved
 loop-i-preserved c =

@@ -1,7 +1,7 @@
 -- As long as nobody leaves, what stayed and what was passed are as many. Assumes nothing.
 use Rattle.stations.proofs.Passing.{Passing, passing_none, passing_stayed}
 use Rattle.stations.proofs.Raising.{stayed}
-use Rattle.stations.proofs.Reading.{count-few}
+use Rattle.stations.proofs.Reading.{count_few}
 use Rattle.stations.specs.Rows.{RaisedTo, RowsHeld, stations_in}
 use Rattle.stations.specs.Stations.{young, aged}
 use Rattle.stations.specs.Station.{older}
@@ -20,12 +20,12 @@ loop-i-init c =
 
 pub age_in-requires : goal.age_in-requires
 age_in-requires c =
-    omega (arith, count-few c.requires, c.count-n.ensures)
+    omega (arith, count_few c.requires, c.count-n.ensures)
 
 pub raise_age-requires : goal.raise_age-requires
 raise_age-requires c =
     let young = sym c.is_young.ensures ∙ c.if-is_young.true in
-    (omega (arith, count-few c.requires, c.count-n.ensures), omega (arith, ltb-true, c.age_in.ensures))
+    (omega (arith, count_few c.requires, c.count-n.ensures), omega (arith, ltb-true, c.age_in.ensures))
 
 pub loop-i-preserved : goal.loop-i-preserved
 loop-i-preserved c =

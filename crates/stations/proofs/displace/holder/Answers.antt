@@ -1,6 +1,6 @@
 -- The first at the hop: no two share one. Assumes nothing.
 use Rattle.stations.specs.Rows.{stations_in}
-use Rattle.stations.proofs.Reading.{count-few, count_long}
+use Rattle.stations.proofs.Reading.{count_few, count_long}
 use Rattle.stations.proofs.Alone.{sole_past}
 use Rattle.stations.proofs.Room.{hop_range}
 use Rattle.stations.proofs.Storing.{hop-found, hop-passed}
@@ -12,7 +12,7 @@ loop-i-init c = (search rules, λ j h. absurd (omega arith))
 
 pub hop_in-requires : goal.hop_in-requires
 hop_in-requires c =
-    omega (arith, count-few c.requires.0.held, c.count-n.ensures)
+    omega (arith, count_few c.requires.0.held, c.count-n.ensures)
 
 pub returns-then-hop_in-p : goal.returns-then-hop_in-p
 returns-then-hop_in-p c =

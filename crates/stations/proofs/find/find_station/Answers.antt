@@ -1,11 +1,11 @@
 -- At the rank of an address stands its station, or none has it. Assumes nothing.
-use Rattle.stations.proofs.Reading.{count-few, row_hit, row_other, row_past}
+use Rattle.stations.proofs.Reading.{count_few, row_hit, row_other, row_past}
 use Rattle.std.proofs.Common.{arith}
 use Rattle.stations.proofs.find.find_station.Goals as goal
 
 pub address_in-requires : goal.address_in-requires
 address_in-requires c =
-    omega (arith, count-few c.requires.held, c.count.ensures)
+    omega (arith, count_few c.requires.held, c.count.ensures)
 
 pub returns-then-address_in-address : goal.returns-then-address_in-address
 returns-then-address_in-address c =

@@ -1,5 +1,5 @@
 -- The rank stays between the two ends, which close in by halves. Assumes nothing.
-use Rattle.stations.proofs.Reading.{count-few, row-left, row-right, row-rank}
+use Rattle.stations.proofs.Reading.{count_few, row-left, row_right, row-rank}
 use Rattle.std.proofs.Common.{◌+◌, ◌/◌, arith}
 use Rattle.stations.proofs.find.rank.Goals as goal
 
@@ -8,15 +8,15 @@ loop-low-init c = (omega arith, (rw c.count-high.ensures (row-rank c.requires _)
 
 pub overflow_add-middle : goal.overflow_add-middle
 overflow_add-middle c =
-    record { fits = omega (arith, count-few c.requires) }
+    record { fits = omega (arith, count_few c.requires) }
 
 pub address_in-requires : goal.address_in-requires
 address_in-requires c =
-    omega (arith, count-few c.requires)
+    omega (arith, count_few c.requires)
 
 pub loop-low-preserved-then-address_in-address : goal.loop-low-preserved-then-address_in-address
 loop-low-preserved-then-address_in-address c = (
-  row-right c.requires ((c.loop-low.low + c.loop-low.high) / 2) (omega arith) _ c.address_in.ensures c.if-address_in-address.true,
+  row_right c.requires ((c.loop-low.low + c.loop-low.high) / 2) (omega arith) _ c.address_in.ensures c.if-address_in-address.true,
   (c.loop-low.invariant.1.0, c.loop-low.invariant.1.1),
 )
 

@@ -3,16 +3,16 @@ use Rattle.std.proofs.Common.{◌<◌, ◌≤◌, length, set, sym, ap, ◌∙�
 use lib.Seq.{set_out}
 use Rattle.stations.specs.Station.{Station, with_attributes}
 use Rattle.stations.specs.Rows.{stations_in, rows_of}
-use Rattle.stations.proofs.Reading.{count-few, count_long, rows_whole, store_at, read_any}
+use Rattle.stations.proofs.Reading.{count_few, count_long, rows_whole, store_at, read_any}
 use Rattle.stations.proofs.give.give_attributes.Goals as goal
 
 pub station_in-s-requires : goal.station_in-s-requires
 station_in-s-requires c =
-    omega (arith, count-few c.requires.held, c.count.ensures)
+    omega (arith, count_few c.requires.held, c.count.ensures)
 
 pub put_station-requires : goal.put_station-requires
 put_station-requires c =
-    omega (arith, count-few c.requires.held, c.count.ensures)
+    omega (arith, count_few c.requires.held, c.count.ensures)
 
 pub returns-then-at-count : goal.returns-then-at-count
 returns-then-at-count c =

@@ -1,22 +1,22 @@
 -- Old; or renewed and then (e), which spares the station itself. Assumes nothing.
 use Rattle.std.proofs.Common.{arith}
-use Rattle.stations.proofs.Reading.{count-few, count_long}
-use Rattle.stations.proofs.Storing.{Fits, known-inside, known-old, known-placed, renewed_sole}
+use Rattle.stations.proofs.Reading.{count_few, count_long}
+use Rattle.stations.proofs.Storing.{Fits, known_inside, known_old, known-placed, renewed_sole}
 use Rattle.stations.proofs.hear.hear_known.Goals as goal
 
 pub sequence_in-requires : goal.sequence_in-requires
 sequence_in-requires c =
     let held = c.requires.0.held in
-    omega (arith, count_long held, count-few held, known-inside held c.args.p c.args.at c.requires.2)
+    omega (arith, count_long held, count_few held, known_inside held c.args.p c.args.at c.requires.2)
 
 pub returns-then-d-gt-LAST_NEWER : goal.returns-then-d-gt-LAST_NEWER
 returns-then-d-gt-LAST_NEWER c =
-    known-old c.requires.0.held c.args.p c.args.at c.requires.2 c.sequence_in.ensures c.distance-d.ensures
+    known_old c.requires.0.held c.args.p c.args.at c.requires.2 c.sequence_in.ensures c.distance-d.ensures
     c.if-d-gt-LAST_NEWER.true
 
 pub renew_at-requires : goal.renew_at-requires
 renew_at-requires c =
-    (c.requires.0.held, known-inside c.requires.0.held c.args.p c.args.at c.requires.2)
+    (c.requires.0.held, known_inside c.requires.0.held c.args.p c.args.at c.requires.2)
 
 pub displace_others-requires : goal.displace_others-requires
 displace_others-requires c =

@@ -1,5 +1,5 @@
 -- After the one at the hop has given way there is a place; where nobody left, it is that of before. Assumes nothing.
-use Rattle.stations.proofs.Storing.{rows_place, new-room, new-placed, new_place, new-there}
+use Rattle.stations.proofs.Storing.{rows_place, new_room, new_placed, new_place, new_there}
 use Rattle.stations.proofs.hear.hear_new.Goals as goal
 
 pub displace_others-requires : goal.displace_others-requires
@@ -13,14 +13,14 @@ insert_at-requires c =
 
 pub returns-then-count-n : goal.returns-then-count-n
 returns-then-count-n c =
-    new-there c.requires.0.held c.args.p c.displace_others.ensures c.args.at c.requires.3 c.count-n.ensures c.count.ensures
+    new_there c.requires.0.held c.args.p c.displace_others.ensures c.args.at c.requires.3 c.count-n.ensures c.count.ensures
     c.if-count-n.true c.join.ensures c.insert_at.ensures
 
 pub insert_station-requires : goal.insert_station-requires
 insert_station-requires c =
-    new-room c.requires.0.held c.args.p c.displace_others.ensures
+    new_room c.requires.0.held c.args.p c.displace_others.ensures
     (rows_place c.args.p c.requires.0 c.requires.1 c.requires.2)
 
 pub returns : goal.returns
 returns c =
-    new-placed c.requires.0.held c.args.p c.displace_others.ensures c.join-2.ensures c.insert_station.ensures
+    new_placed c.requires.0.held c.args.p c.displace_others.ensures c.join-2.ensures c.insert_station.ensures

@@ -1,6 +1,6 @@
 -- At a hop in range, or refused. Assumes nothing.
 use Rattle.stations.specs.Hearing.{placed_any}
-use Rattle.stations.proofs.Telling.{tell-same}
+use Rattle.stations.proofs.Telling.{tell_same}
 use Rattle.std.proofs.Common.{sym, ◌∙◌}
 use Rattle.stations.proofs.hear.hear_report.Goals as goal
 
@@ -16,4 +16,4 @@ returns-then-is_hop c =
 pub returns : goal.returns
 unfolding placed_any
 returns c =
-    rw (← c.is_hop.ensures, c.if-is_hop.false) (tell-same c.requires 6)
+    rw (← c.is_hop.ensures, c.if-is_hop.false) (tell_same c.requires 6)

@@ -3,16 +3,16 @@ use Rattle.std.proofs.Common.{set, ap, ◌∙◌, arith}
 use Rattle.stations.specs.Station.{Station}
 use Rattle.stations.specs.Hearing.{heard_again}
 use Rattle.stations.specs.Rows.{stations_in, rows_of}
-use Rattle.stations.proofs.Reading.{count-few, count_long}
+use Rattle.stations.proofs.Reading.{count_few, count_long}
 use Rattle.stations.proofs.Storing.{store_at, stored_is}
 use Rattle.stations.proofs.hear.renew_at.Goals as goal
 
 pub station_in-s-requires : goal.station_in-s-requires
-station_in-s-requires c = omega (arith, count_long c.requires.0, count-few c.requires.0, c.requires.1)
+station_in-s-requires c = omega (arith, count_long c.requires.0, count_few c.requires.0, c.requires.1)
 
 pub put_station-requires : goal.put_station-requires
 put_station-requires c =
-    omega (arith, count_long c.requires.0, count-few c.requires.0, c.requires.1)
+    omega (arith, count_long c.requires.0, count_few c.requires.0, c.requires.1)
 
 pub returns : goal.returns
 returns c =

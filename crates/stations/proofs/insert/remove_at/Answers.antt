@@ -1,6 +1,6 @@
 -- The free place moves up to the last; the places without it do not change. Assumes nothing.
 use Rattle.stations.proofs.Shifting.{shifting_none, shifting_up, shifted_out}
-use Rattle.stations.proofs.Reading.{count-few, count_long}
+use Rattle.stations.proofs.Reading.{count_few, count_long}
 use Rattle.std.proofs.Common.{arith, rules}
 use Rattle.stations.proofs.insert.remove_at.Goals as goal
 
@@ -14,19 +14,19 @@ loop-i-init c =
 
 pub copy_place-requires : goal.copy_place-requires
 copy_place-requires c =
-    (omega (arith, count-few c.requires.0, c.count-last.ensures), omega (arith, count-few c.requires.0, c.count-last.ensures))
+    (omega (arith, count_few c.requires.0, c.count-last.ensures), omega (arith, count_few c.requires.0, c.count-last.ensures))
 
 pub loop-i-preserved : goal.loop-i-preserved
 loop-i-preserved c = (
   search rules,
   search rules,
-  shifting_up c.loop-i.invariant.2 (omega (arith, count-few c.requires.0, c.count-last.ensures))
+  shifting_up c.loop-i.invariant.2 (omega (arith, count_few c.requires.0, c.count-last.ensures))
       c.copy_place.ensures,
 )
 
 pub clear_place-requires : goal.clear_place-requires
 clear_place-requires c =
-    omega (arith, count-few c.requires.0, c.count-last.ensures, count_long c.requires.0, c.requires.1)
+    omega (arith, count_few c.requires.0, c.count-last.ensures, count_long c.requires.0, c.requires.1)
 
 pub returns : goal.returns
 returns c =

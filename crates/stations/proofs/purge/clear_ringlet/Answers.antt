@@ -1,7 +1,7 @@
 -- One pass: each station that keeps a hop goes where it belongs, after its place is cleared. Assumes nothing.
 use Rattle.std.proofs.Common.{sym, ◌∙◌, arith}
 use Rattle.stations.proofs.Passing.{passing_none, passing_end, passing_dropped, passing_unheard}
-use Rattle.stations.proofs.Reading.{count-few}
+use Rattle.stations.proofs.Reading.{count_few}
 use Rattle.stations.specs.Stations.{purged}
 use Rattle.stations.proofs.purge.clear_ringlet.Goals as goal
 
@@ -11,11 +11,11 @@ loop-i-init c =
 
 pub remains_in-requires : goal.remains_in-requires
 remains_in-requires c =
-    omega (arith, count-few c.requires, c.count-n.ensures)
+    omega (arith, count_few c.requires, c.count-n.ensures)
 
 pub purge_to-requires : goal.purge_to-requires
 purge_to-requires c =
-    (omega (arith, count-few c.requires, c.count-n.ensures, c.loop-i.invariant.pass.low), omega (arith, count-few c.requires, c.count-n.ensures))
+    (omega (arith, count_few c.requires, c.count-n.ensures, c.loop-i.invariant.pass.low), omega (arith, count_few c.requires, c.count-n.ensures))
 
 pub loop-i-preserved-then-remains_in : goal.loop-i-preserved-then-remains_in
 loop-i-preserved-then-remains_in c =
@@ -24,7 +24,7 @@ loop-i-preserved-then-remains_in c =
 
 pub clear_place-requires : goal.clear_place-requires
 clear_place-requires c =
-    omega (arith, count-few c.requires, c.count-n.ensures)
+    omega (arith, count_few c.requires, c.count-n.ensures)
 
 pub loop-i-preserved : goal.loop-i-preserved
 loop-i-preserved c =

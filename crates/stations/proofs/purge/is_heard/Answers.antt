@@ -1,11 +1,11 @@
 -- None of the stations passed is changed; at the end there are no others. Assumes nothing.
 use Rattle.std.proofs.Common.{sym, ◌∙◌, arith, rules}
-use Rattle.stations.proofs.Reading.{count-few, row_here, row_on, row-end}
+use Rattle.stations.proofs.Reading.{count_few, row_here, row_on, row_end}
 use Rattle.stations.proofs.purge.is_heard.Goals as goal
 
 pub purgeable_in-requires : goal.purgeable_in-requires
 purgeable_in-requires c =
-    omega (arith, count-few c.requires, c.count-n.ensures)
+    omega (arith, count_few c.requires, c.count-n.ensures)
 
 pub returns-then-purgeable_in : goal.returns-then-purgeable_in
 returns-then-purgeable_in c =
@@ -20,4 +20,4 @@ loop-i-preserved c = (
 
 pub returns : goal.returns
 returns c =
-    row-end c.requires _ _ (rw c.count-n.ensures at c.loop-i-test.false) (rw c.count-n.ensures at c.loop-i.invariant.0) c.loop-i.invariant.1
+    row_end c.requires _ _ (rw c.count-n.ensures at c.loop-i-test.false) (rw c.count-n.ensures at c.loop-i.invariant.0) c.loop-i.invariant.1

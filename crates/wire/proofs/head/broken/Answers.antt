@@ -1,5 +1,5 @@
 -- Too few bytes, another length, or the last test: one law for each return. Assumes nothing.
-use Rattle.wire.proofs.Heads.{too_few, wrong_length, right-length}
+use Rattle.wire.proofs.Heads.{too_few, wrong_length, right_length}
 use Rattle.wire.proofs.head.broken.Goals as goal
 
 pub returns-then-b-lt-HEAD : goal.returns-then-b-lt-HEAD
@@ -14,4 +14,4 @@ returns-then-length-b c =
 pub returns : goal.returns
 returns c =
     let if1 = c.if-b-lt-HEAD in
-    rw c.word_at-length.ensures (right-length c.args.b.now if1.false (rw c.word_at-length.ensures at c.if-length-b.false))
+    rw c.word_at-length.ensures (right_length c.args.b.now if1.false (rw c.word_at-length.ensures at c.if-length-b.false))
