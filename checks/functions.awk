@@ -48,10 +48,21 @@ function words_of(s) {
 }
 
 function read_public(i, where) {
-    if (word[i] == "use" && word[i + 2] == "::" && word[i + 4] == ";") print "export", where "." word[i + 3], where "." word[i + 1] "." word[i + 3]
+    if (word[i] == "use" && word[i + 2] == "::" && word[i + 4] == ";") export(where, word[i + 1], word[i + 3])
+    else if (word[i] == "use" && word[i + 2] == "::" && word[i + 3] == "{") read_group(i, where)
     else if (word[i] == "use") tell("pub use " word[i + 1] " " word[i + 2] " " word[i + 3] " " word[i + 4])
     while (word[i] ~ /^(const|unsafe|extern|LITERAL)$/) i++
     if (word[i] == "fn") print "function", where "." word[i + 1], signature(i + 2)
+}
+
+function export(where, module, name) { print "export", where "." name, where "." module "." name }
+
+# pub use module::{name, name};
+function read_group(i, where,    k) {
+    for (k = i + 4; word[k] != "}"; k += word[k + 1] == "," ? 2 : 1) {
+        if (word[k + 1] !~ /^[,}]$/) return tell("pub use " word[i + 1] " :: { .. " word[k] " " word[k + 1])
+        export(where, word[i + 1], word[k])
+    }
 }
 
 function signature(i,    depth, place, lent) {

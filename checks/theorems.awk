@@ -1,15 +1,17 @@
 # Holds the theorems of uniqueness to the public functions. Reads the list that checks/functions.awk makes (-v list=FILE, and FILE as the first file), then the
 # files of theorems. The type of a theorem must be
 #     Fixes P.ended E Q                                       two answers that meet the promise of P are equal
-#     FixesPart P.ended X (λ κs x e. now x) E Q               the same of what an answer shows that is a reference
-#     FixesPart P.ended X (λ κs x e. now (e .1 .0)) E Q       the same of a parameter at exit: e .0 the first, e .1 .0 the second, e .1 .1 .0 the third
-# where P leads, through the `use` lines of the file, to the function's own path, and E is the ensures of that function. (Q may be anything: the type says itself
+#     FixesPart P.ended X (λ κs x e. x.now) E Q               the same of what an answer shows that is a reference
+#     FixesPart P.ended X (λ κs x e. e.1.0.now) E Q           the same of a parameter at exit: e.0 the first, e.1.0 the second, e.1.1.0 the third
+# where P leads, through the `use` lines of the file, to the contract at the function's own path, and E is the ensures of that function. (Q may be anything: the type says itself
 # that E promises Q and nothing else.) Each function has the theorem of its answer and one for each lent parameter, once each, and there is no other theorem.
 # What is missing is said; exit status 1.
 BEGIN {
-    unique = "Rattle·promises·specs.specs.Unique"
-    # Behind P.clauses, in a clause that is written out since the generator gives no plain type for it.
-    every_model = "(w .𝓤) (w .H) (w .𝓖 .A) (w .𝓜 .mem) (w .𝓡 .run) κs a .ensures g x e"
+    unique = "Rattle.promises.specs.Unique"
+    contract = ".specs.contracts."
+    proof = ".proofs."
+    # Behind P.clauses, in a clause that is written out at every model.
+    every_model = " w.𝓛 w.𝓜.mem w.𝓡.run κs a).ensures"
 }
 
 FILENAME == list && $1 == "export" { exported[$2] = $3 }
@@ -105,34 +107,37 @@ function take_names(f, s,    module, n, k, names, w) {
 # A name that the file takes from this module, and does not define itself.
 function taken(f, word, module) { return brought[f, word] == module "." word && !own[f, word] }
 
-# The function to which a path of the file leads, less its ending; "" if it leads to none.
-function target(f, path, ending,    head, short) {
+# The function to which a path of the file leads, through what is made of its crate (its contracts, or its proofs), less its ending; "" if it leads to none.
+function target(f, path, made, ending,    head, short) {
     if (substr(path, length(path) - length(ending) + 1) != ending) return ""
     path = substr(path, 1, length(path) - length(ending))
     head = path
     sub(/\..*/, "", head)
     if (own[f, head] || (f, head) in brought && brought[f, head] !~ /\.specs\.declared\./) return ""
     path = brought[f, head "."] substr(path, length(head) + 1)
-    if (path !~ /^Rattle·[a-z_0-9]+\.proofs\./) return ""
-    sub(/^Rattle·/, "", path)
-    sub(/\.proofs\./, ".", path)
+    if (path !~ /^Rattle\.[a-z_0-9]+\./) return ""
+    sub(/^Rattle\./, "", path)
     short = path
+    sub(/\..*/, "", short)
+    if (substr(path, length(short) + 1, length(made)) != made) return ""
+    path = short "." substr(path, length(short) + length(made) + 1)
     if (match(path, /^[^.]+\.[^.]+/)) short = substr(path, 1, RLENGTH)
     return short in exported ? exported[short] substr(path, length(short) + 1) : path
 }
 
 # E is the ensures of the function: the one that the generator gives, or its clause at every model, written out.
-function is_ensures(f, E, path,    n, p) {
-    if (target(f, E, ".Reads.ensures") == path) return 1
+function is_ensures(f, E, path,    n, p, clauses) {
+    if (target(f, E, proof, ".Reads.ensures") == path) return 1
     n = parts_of(substr(E, 2, length(E) - 2), p)
-    return joined(p, 1, 7) == "λ κs a g x e w." && target(f, p[8], ".clauses") == path && joined(p, 9, n) == every_model
+    if (joined(p, 1, 7) != "λ κs a g x e w." || joined(p, 9, n) != "g x e") return 0
+    clauses = substr(p[8], 2, length(p[8]) - 1 - length(every_model))
+    return p[8] == "(" clauses every_model && target(f, clauses, contract, ".clauses") == path
 }
 
 # What a part takes: "shown", or the number of a parameter.
-function part_taken(f, s) {
-    if (!taken(f, "now", "denote.Ref")) return ""
-    if (s == "(λ κs x e. now x)") return "shown"
-    if (s !~ /^\(λ κs x e\. now \(e( \.1)* \.0\)\)$/) return ""
+function part_taken(s) {
+    if (s == "(λ κs x e. x.now)") return "shown"
+    if (s !~ /^\(λ κs x e\. e(\.1)*\.0\.now\)$/) return ""
     return gsub(/\.1/, "", s) + 1
 }
 
@@ -140,10 +145,10 @@ function judge(i, f,    n, p, path, E, fixed, key) {
     theorems++
     n = parts_of(type[i], p)
     if (p[1] == "Fixes" && n == 4) { fixed = "answer"; E = p[3] }
-    else if (p[1] == "FixesPart" && n == 6) { fixed = part_taken(f, p[4]); E = p[5] }
+    else if (p[1] == "FixesPart" && n == 6) { fixed = part_taken(p[4]); E = p[5] }
     if (E == "" || !taken(f, p[1], unique)) return tell(f, name[i] ": `" type[i] "` is no theorem of uniqueness")
     if (fixed == "") return tell(f, name[i] ": `" p[4] "` takes neither a lent parameter nor what the answer shows")
-    path = target(f, p[2], ".ended")
+    path = target(f, p[2], contract, ".ended")
     if (path == "") return tell(f, name[i] ": `" p[2] "` is no function of a crate")
     if (!is_ensures(f, E, path)) return tell(f, name[i] ": `" E "` is not the ensures of that function")
     key = path " " fixed
