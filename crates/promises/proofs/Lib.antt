@@ -5,6 +5,7 @@ pub mod Roundtrip
 pub mod Demand3
 pub mod Steering
 pub mod Spans
+pub mod Forgetting
 pub mod Bandwidth
 pub mod Wrong
 pub mod Contracts

@@ -43,6 +43,13 @@ attributes n block = ((9 + length block) % 256 ∷ (9 + length block) / 256 ∷ 
 abbrev pub settings : ℕ → ℕ → List ℕ
 settings level holdoff = (17 ∷ 0 ∷ 32 ∷ 0 ∷ level ∷ []) ++ (address 1 ++ (0 ∷ 0 ∷ holdoff ∷ 50 ∷ 10 ∷ 2 ∷ 10 ∷ 0 ∷ []))
 
+-- Short settings of node 1, and full ones that say the default settings, but for a forget time of so many steps of 100 ms.
+abbrev pub short : List ℕ
+short = (8 ∷ 0 ∷ 33 ∷ 0 ∷ []) ++ address 1
+
+abbrev pub full_with : ℕ → List ℕ
+full_with forget = (17 ∷ 0 ∷ 32 ∷ 0 ∷ 2 ∷ []) ++ (address 1 ++ (10 ∷ 0 ∷ 0 ∷ 3 ∷ 10 ∷ 2 ∷ forget % 256 ∷ forget / 256 ∷ []))
+
 -- What may be asked after a drill.
 pub data Question : Type 0 where
   results : Question
@@ -240,3 +247,22 @@ first_of_two = drill 0 (ring 3 ++ (link 1 2 ∷ link 0 1 ∷ [])) (trouble 3 ∷
 abbrev pub requested : List Example
 requested =
     swing ∷ swing_after ∷ p6_many ∷ p6_many_after ∷ swing_many ∷ swing_many_after ∷ p11_told ∷ p12_told ∷ second_span ∷ first_of_two ∷ []
+
+-- A station leaves with the tick of the forget time and not before: station 2 is heard once; then so many ticks come, with keepalives, and its sequence is asked for.
+abbrev pub unheard_for : ℕ → List ℕ → List ℕ → Example
+unheard_for n start d = record { start = start; records = report 0 255 2 1 0 0 ∷ ticks n; asks = stored 2 ∷ []; due = d }
+
+abbrev pub full_forgets : Example
+full_forgets = unheard_for 999 (full_with 10) (1 ∷ [])
+
+abbrev pub full_forgets_after : Example
+full_forgets_after = unheard_for 1000 (full_with 10) []
+
+abbrev pub named_forgets : Example
+named_forgets = unheard_for 29999 (full_with 300) (1 ∷ [])
+
+abbrev pub named_forgets_after : Example
+named_forgets_after = unheard_for 30000 (full_with 300) []
+
+abbrev pub unheard : List Example
+unheard = full_forgets ∷ full_forgets_after ∷ named_forgets ∷ named_forgets_after ∷ []

@@ -6,6 +6,7 @@ pub mod Steering
 pub mod Spans
 pub mod HoldOff
 pub mod Marks
+pub mod Forgetting
 pub mod Written
 pub mod Examples
 pub mod Possible

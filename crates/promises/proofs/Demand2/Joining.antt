@@ -15,6 +15,7 @@ use Rattle.stations.specs.declared.station.Station.{Station}
 use Rattle.stations.specs.declared.station.Report.{Report}
 use Rattle.stations.specs.Station.{hop, Same, with_hop, newcomer}
 use Rattle.stations.specs.Stations.{sifted, unpurged, purged, displaced, inserted, sequence_of}
+use Rattle.stations.specs.Table.{Each}
 use Rattle.stations.specs.Hearing.{Placed, placed, placed_new}
 use Rattle.stations.proofs.Lists.{chosen}
 use Rattle.stations.proofs.Hops.{hop_other, hop-somewhere, newcomer-hop}
@@ -33,7 +34,7 @@ use Rattle.promises.proofs.Demand1.Results.{given, result_of}
 use Rattle.promises.proofs.Demand2.Spelling.{outcomes-one}
 
 module _ (a r h : ℕ) where
-  abbrev test : Station → Bool
+  abbrev pub test : Station → Bool
   test s = eqb s.address a && eqb (hop r s) h
 
   inserted_stands : (s : Station) → test s ≡ true → (l : List Station) → holds_hop a r h (inserted s l) ≡ true
@@ -43,7 +44,23 @@ module _ (a r h : ℕ) where
       chosen (λ (m : List Station). holds_hop a r h m ≡ true) (ltb x.address s.address)
       (λ z. ap (λ (b : Bool). test x || b) (inserted_stands s e l) ∙ or-true (test x)) (λ z. rw e)
 
-  sifted_stands : (stays : Station → Bool) (change : Station → Station)
+  -- Some stations leave, and P holds of all of them before.
+  pub each_stands : (P : Station → Type 0) (stays : Station → Bool) (change : Station → Station)
+      → ((s : Station) → P s → test s ≡ true → (stays s ≡ true) × (test (change s) ≡ true)) → (l : List Station) → Each P l → holds_hop a r h l ≡ true
+      → holds_hop a r h (sifted stays change l) ≡ true
+  unfolding holds_hop sifted Each
+  each_stands P stays change k [] all e = absurd (false≢true e)
+  each_stands P stays change k (s ∷ l) all e = go (test s) refl (each_stands P stays change k l all.1) e
+    where
+      go : (b : Bool) → test s ≡ b → (holds_hop a r h l ≡ true → holds_hop a r h (sifted stays change l) ≡ true) → b || holds_hop a r h l ≡ true
+          → holds_hop a r h (cond (stays s) (change s ∷ sifted stays change l) (sifted stays change l)) ≡ true
+      go true z ih e = let (still, there) = k s all.0 z in rw (still, there)
+      go false z ih e =
+          let rest : holds_hop a r h (sifted stays change l) ≡ true = ih e in
+          chosen (λ (m : List Station). holds_hop a r h m ≡ true) (stays s)
+          (λ y. ap (λ (b : Bool). test (change s) || b) rest ∙ or-true (test (change s))) (λ y. rest)
+
+  pub sifted_stands : (stays : Station → Bool) (change : Station → Station)
       → ((s : Station) → test s ≡ true → (stays s ≡ true) × (test (change s) ≡ true)) → (l : List Station) → holds_hop a r h l ≡ true
       → holds_hop a r h (sifted stays change l) ≡ true
   unfolding holds_hop sifted
@@ -84,7 +101,7 @@ module _ (t : Ticks) (n : ℕ) (p : Report) (y : Spans) (l : List Station) where
   heard_new new e = let (own, up) = heard_open e in rw (own, up, new)
 
   -- The sweep that follows purges the other ringlet at most.
-  swept_stands : eqb p.ringlet n ≡ true → down t (span_of n y) ≡ false → 1 ≤ p.hop → (m : List Station)
+  pub swept_stands : eqb p.ringlet n ≡ true → down t (span_of n y) ≡ false → 1 ≤ p.hop → (m : List Station)
       → holds_hop p.address p.ringlet p.hop m ≡ true → holds_hop p.address p.ringlet p.hop (swept t y m) ≡ true
   unfolding swept
   swept_stands own up some m e = go (eqb n 0) refl (down t y.west) refl (down t y.east) refl

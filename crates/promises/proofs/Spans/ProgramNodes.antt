@@ -40,7 +40,7 @@ unfolding made_of
 made_both [] g = refl
 made_both (m ∷ h) g = ap (λ (l : List Call). call_of m ∷ l) (made_both h g)
 
-calls_both : (h g : List Made) → calls_of (h ++ g) ≡ calls_of h ++ calls_of g
+pub calls_both : (h g : List Made) → calls_of (h ++ g) ≡ calls_of h ++ calls_of g
 unfolding calls_of
 calls_both h g = ap spelled_out (made_both h g) ∙ spelled_both (made_of h) (made_of g)
 
