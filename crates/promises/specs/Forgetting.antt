@@ -44,6 +44,10 @@ ticks_unheard a s k (c ∷ h) =
 abbrev pub Aged : ℕ → ℕ → List Station → Type 0
 Aged a k l = Each (λ (x : Station). x.address ≡ a → x.age ≡ k) l
 
+-- So many ticks are enough for a station to be forgotten.
+abbrev pub IsDue : State → ℕ → Type 0
+IsDue s k = (ticks_in s).forget ≤ k
+
 -- After the calls h it is not yet to be forgotten, and the span of its ringlet is not down.
 pub record InTime (a ringlet : ℕ) (s : State) (k : ℕ) (h : List Call) : Type 0 where
   pub heard : ticks_unheard a s k h < (ticks_in s).forget

@@ -21,7 +21,7 @@ use Rattle.controller.specs.Promise.{Begun}
 use Rattle.promises.specs.History.{Call, after, Always, AllBytes, start_of, Made, calls_of, Met}
 use Rattle.promises.specs.Room.{holds_hop}
 use Rattle.promises.specs.Spans.{own_in, ticks_in, ticks_from, seen, some_taken}
-use Rattle.promises.specs.Forgetting.{moves, ticks_unheard, Aged, InTime, TenSeconds}
+use Rattle.promises.specs.Forgetting.{moves, ticks_unheard, Aged, IsDue, InTime, TenSeconds}
 use Rattle.promises.proofs.Demand2.AfterKept.{after_kept, choice-after}
 use Rattle.promises.proofs.Demand2.Coming.{state-after, ruled}
 use Rattle.promises.proofs.Spans.ProgramNodes.{calls_both}
@@ -34,7 +34,7 @@ nobody_absent a [] e = refl
 nobody_absent a (x ∷ l) e = rw (ne_eqb x.address a e.0, nobody_absent a l e.1)
 
 -- In a state that is kept every age is below the forget time.
-too_old : (a k : ℕ) (s : State) → StateKept s → Aged a k s.stations → (ticks_in s).forget ≤ k → present a s.stations ≡ false
+too_old : (a k : ℕ) (s : State) → StateKept s → Aged a k s.stations → IsDue s k → present a s.stations ≡ false
 too_old a k s kept age old =
     nobody_absent a s.stations
     (each_both (StationKept s.choice.address s.choice.ticks.forget s.choice.known) (Has a k) (λ (x : Station). x.address ≡ a → ⊥)
