@@ -1,4 +1,4 @@
--- What the walks of `pace` and `pace_copy` share: a Pacer and a Paced as machine values, and the five plain parameters that both take and pass on.
+-- For a walk by hand of `pace` or `pace_copy`, which the prover does not need today: a Pacer and a Paced as machine values, and the five plain parameters that both take and pass on.
 -- A struct of plain data and a plain parameter own only facts, so what they own is made from nothing where it is wanted.
 -- Assumes nothing.
 use Rattle.std.proofs.Common.{ℕ, ◌^◌, ◌<◌, Bool, T as Holds, List, [], ◌∷◌, refl, w8, w32}

@@ -1,5 +1,6 @@
 -- The routines meet the definitions that the demands cite: of each call the theorem that the prover accepted of its routine, said of the definition itself. Assumes nothing.
--- So between the code and the demands this is left to believe: that a program's run is a history as `Met` has it, each call handed the node that the call before gave.
+-- So between the code and the demands this is left to believe: that a program's run is a history as `Met` has it, each call handed the node that the call before gave; and
+-- that in the program each name means the code that was proved (`Wired`).
 -- A call's own run on the machine ends as its contract says by the logic's theorem `adequate` (its library denote, Triple/Adequate). docs/PROMISES.md has the rest.
 use mathlib.Core.Path.{◌≡◌}
 use lib.ListN.{length}

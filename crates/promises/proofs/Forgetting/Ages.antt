@@ -1,5 +1,5 @@
 -- The age of a station is the ticks since its latest report with result 0, over every history; so it is forgotten in time. Assumes nothing.
-use Prim.Native.Nat.{ℕ, suc, ◌+◌, ◌≤◌}
+use Prim.Native.Nat.{ℕ, suc}
 use mathlib.Core.Path.{◌≡◌, refl, sym, ap, subst, ◌∙◌}
 use mathlib.Core.Bool.{Bool, true, false, cond, ◌&&◌}
 use mathlib.Core.List.{List, [], ◌∷◌}
@@ -8,7 +8,6 @@ use native.Mathlib.Omega.{arith}
 use lib.Dec.{eqb}
 use borrow.Author.Tests.{eqb-true, eqb-false}
 use Rattle.settings.specs.declared.choice.Ticks.{Ticks}
-use Rattle.settings.specs.Kept.{TicksKept}
 use Rattle.spans.specs.Requests.{down}
 use Rattle.blocks.specs.Meaning.{Meaning, malformed, aside, shows, meaning}
 use Rattle.blocks.specs.Attributes.{attributes_from}
@@ -16,19 +15,17 @@ use Rattle.stations.specs.declared.station.Station.{Station}
 use Rattle.stations.specs.declared.station.Report.{Report}
 use Rattle.stations.specs.Station.{older, with_hop, with_attributes, newcomer}
 use Rattle.stations.specs.Stations.{young, aged, unpurged, purged, other_at, undisplaced, losing, displaced, renewed, inserted, given, present, sequence_of}
-use Rattle.stations.specs.Hearing.{Placed, distance, heard_again, placed}
-use Rattle.stations.specs.Table.{Each}
-use Rattle.stations.specs.Kept.{StationKept}
-use Rattle.stations.proofs.Lists.{chosen, each_map, each_both}
-use Rattle.stations.proofs.Sifting.{sifted_each, losing-address}
+use Rattle.stations.specs.Hearing.{Placed, distance, heard_again}
+use Rattle.stations.proofs.Lists.{chosen, each_map}
+use Rattle.stations.proofs.Sifting.{sifted_each}
 use Rattle.stations.proofs.Renewing.{renewed_each}
-use Rattle.stations.proofs.Inserting.{Nobody, inserted_each, unknown_nobody, displaced_nobody}
+use Rattle.stations.proofs.Inserting.{inserted_each, unknown_nobody, displaced_nobody}
 use Rattle.stations.proofs.Placing.{placed-ends}
 use Rattle.stations.proofs.Hops.{again-address}
 use Rattle.controller.specs.declared.reading.Reading.{Reading}
 use Rattle.controller.specs.declared.reading.Reading.TheVariants.{Refused, Tick, Link, Keepalive, Operator, Heard, Block}
 use Rattle.controller.specs.Reading.{block_of}
-use Rattle.controller.specs.State.{Choice, Spans, State, span_of, started}
+use Rattle.controller.specs.State.{Choice, Spans, State, span_of}
 use Rattle.controller.specs.Handling.{acted, gives, hearing, taking, learning, judged}
 use Rattle.controller.specs.Closing.{is_tick, settled, purged_if, swept}
 use Rattle.controller.specs.Record.{Outcome, refusal, closed, unless_refused, outcome_of, outcome}

@@ -1,5 +1,5 @@
 -- What the theorems on forgetting suppose is met, by computation from bytes; and who has which forget time. Assumes nothing.
-use Prim.Native.Nat.{ℕ, ◌<◌, ◌≤◌}
+use Prim.Native.Nat.{◌<◌}
 use mathlib.Core.Path.{◌≡◌, refl, ap}
 use mathlib.Core.Bool.{true, false}
 use mathlib.Core.List.{List, [], ◌∷◌}
@@ -10,12 +10,10 @@ use Rattle.settings.specs.Kept.{TicksKept}
 use Rattle.settings.specs.Ticks.{ticks_of}
 use Rattle.settings.specs.Ranges.{in_range, defaults}
 use Rattle.settings.specs.Reading.{fields_of, full_in, short_in, settings_in}
-use Rattle.blocks.specs.Types.{knows}
 use Rattle.stations.specs.Stations.{present}
 use Rattle.stations.specs.Table.{Each}
 use Rattle.controller.specs.State.{Choice, State, started}
-use Rattle.controller.specs.Node.{choice_of}
-use Rattle.promises.specs.History.{Call, after, Always, AllBytes, start_of}
+use Rattle.promises.specs.History.{Call, after, Always, AllBytes}
 use Rattle.promises.specs.Room.{holds_hop}
 use Rattle.promises.specs.Spans.{ticks_from, some_taken}
 use Rattle.promises.specs.Drilled.{calls_for}

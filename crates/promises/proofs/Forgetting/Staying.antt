@@ -4,11 +4,9 @@ use mathlib.Core.Path.{◌≡◌, refl, sym, ap, subst, ◌∙◌}
 use mathlib.Core.Logic.{⊎_elim}
 use mathlib.Core.Bool.{Bool, true, false, not, cond, ◌&&◌, ◌||◌, or-true, true≢false, false≢true}
 use mathlib.Core.List.{List, [], ◌∷◌}
-use mathlib.Core.Option.{none}
 use native.Mathlib.Omega.{arith}
 use lib.Dec.{eqb, ltb}
 use borrow.Author.Tests.{eq-eqb, eqb-true, eqb-false, lt-ltb}
-use Rattle.wire.specs.Fields.{Bytes}
 use Rattle.wire.proofs.Truths.{both, neither}
 use Rattle.settings.specs.declared.choice.Ticks.{Ticks}
 use Rattle.spans.specs.Requests.{down}
@@ -17,24 +15,23 @@ use Rattle.blocks.specs.Attributes.{attributes_from}
 use Rattle.stations.specs.declared.station.Station.{Station}
 use Rattle.stations.specs.declared.station.Report.{Report}
 use Rattle.stations.specs.Station.{hop, Same, older, with_hop, with_attributes, newcomer}
-use Rattle.stations.specs.Stations.{young, aged, other_at, undisplaced, losing, displaced, renewed, inserted, given, present, sequence_of}
+use Rattle.stations.specs.Stations.{young, aged, other_at, undisplaced, losing, displaced, renewed, inserted, given, present}
 use Rattle.stations.specs.Hearing.{Placed, distance, heard_again, placed}
 use Rattle.stations.proofs.Lists.{chosen}
 use Rattle.stations.proofs.Placing.{placed-ends}
 use Rattle.stations.proofs.Hops.{same_or_other, hop_same, hop_other, hop-somewhere, again-address, again-hop, again_other}
 use Rattle.controller.specs.declared.reading.Reading.{Reading}
 use Rattle.controller.specs.declared.reading.Reading.TheVariants.{Refused, Tick, Link, Keepalive, Operator, Heard, Block}
-use Rattle.controller.specs.Reading.{block_of, reading}
+use Rattle.controller.specs.Reading.{block_of}
 use Rattle.controller.specs.State.{Choice, Spans, State, span_of}
 use Rattle.controller.specs.Handling.{acted, gives, hearing, taking, learning, judged}
-use Rattle.controller.specs.Closing.{is_tick, settled, swept}
+use Rattle.controller.specs.Closing.{is_tick, settled}
 use Rattle.controller.specs.Record.{Outcome, refusal, closed, unless_refused, outcome_of, outcome}
 use Rattle.controller.specs.Kept.{ReadingKept}
-use Rattle.controller.proofs.Handing.{hearing-taken}
 use Rattle.controller.proofs.ReadKept.{reading_kept}
 use Rattle.promises.specs.History.{Call, after, answered, Always, AllBytes}
 use Rattle.promises.specs.Room.{holds_hop}
-use Rattle.promises.specs.Spans.{own_in, ticks_in, read_as, some_taken, span_after}
+use Rattle.promises.specs.Spans.{own_in, read_as, some_taken, span_after}
 use Rattle.promises.specs.Forgetting.{is_report_of, moves, ticks_unheard, Aged, InTime}
 use Rattle.promises.proofs.Demand2.AfterKept.{choice-after}
 use Rattle.promises.proofs.Demand2.Joining.{test, each_stands, sifted_stands, swept_stands}

@@ -9,8 +9,8 @@ use borrow.Author.Tests.{lt-ltb, le-ltb}
 use Rattle.wire.specs.Fields.{address_at}
 use Rattle.wire.specs.Head.{broken, head_of}
 use Rattle.settings.specs.Ticks.{ticks_of}
-use Rattle.settings.specs.Ranges.{in_range, defaults}
-use Rattle.settings.specs.Reading.{fields_of, full_in, short_in, settings_in}
+use Rattle.settings.specs.Ranges.{in_range}
+use Rattle.settings.specs.Reading.{fields_of, full_in, settings_in}
 use Rattle.spans.specs.declared.span.Span.{Span}
 use Rattle.pacer.specs.declared.steps.Pacer.{Pacer}
 use Rattle.blocks.specs.Attributes.{absent}
