@@ -60,20 +60,16 @@ module _ (a r h : ℕ) where
           chosen (λ (m : List Station). holds_hop a r h m ≡ true) (stays s)
           (λ y. ap (λ (b : Bool). test (change s) || b) rest ∙ or-true (test (change s))) (λ y. rest)
 
+  -- The same where nothing is asked of them.
   pub sifted_stands : (stays : Station → Bool) (change : Station → Station)
       → ((s : Station) → test s ≡ true → (stays s ≡ true) × (test (change s) ≡ true)) → (l : List Station) → holds_hop a r h l ≡ true
       → holds_hop a r h (sifted stays change l) ≡ true
-  unfolding holds_hop sifted
-  sifted_stands stays change k [] e = absurd (false≢true e)
-  sifted_stands stays change k (s ∷ l) e = go (test s) refl (sifted_stands stays change k l) e
+  unfolding Each
+  sifted_stands stays change k l = each_stands (λ (s : Station). Unit {0}) stays change (λ s u. k s) l (all l)
     where
-      go : (b : Bool) → test s ≡ b → (holds_hop a r h l ≡ true → holds_hop a r h (sifted stays change l) ≡ true) → b || holds_hop a r h l ≡ true
-          → holds_hop a r h (cond (stays s) (change s ∷ sifted stays change l) (sifted stays change l)) ≡ true
-      go true z ih e = let (still, there) = k s z in rw (still, there)
-      go false z ih e =
-          let rest : holds_hop a r h (sifted stays change l) ≡ true = ih e in
-          chosen (λ (m : List Station). holds_hop a r h m ≡ true) (stays s)
-          (λ y. ap (λ (b : Bool). test (change s) || b) rest ∙ or-true (test (change s))) (λ y. rest)
+      all : (m : List Station) → Each (λ (s : Station). Unit {0}) m
+      all [] = tt
+      all (s ∷ m) = (tt, all m)
 
   -- The purge of the other ringlet leaves it there.
   purged_stands : (q : ℕ) → (Same q r → ⊥) → 1 ≤ h → (l : List Station) → holds_hop a r h l ≡ true → holds_hop a r h (purged q l) ≡ true
