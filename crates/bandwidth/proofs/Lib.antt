@@ -1,4 +1,4 @@
 pub mod Differences
 pub mod Summing
-pub mod Asking
+pub mod Numbers
 pub mod Examples

@@ -5,7 +5,7 @@ use Rattle.blocks.specs.Attributes.{behind_with}
 use Rattle.stations.specs.declared.station.Station.{Station}
 use Rattle.stations.specs.Station.{station_of}
 use Rattle.controller.specs.State.{State}
-use Rattle.bandwidth.specs.declared.free.Free.{Free}
+use Rattle.bandwidth.specs.Free.{Free}
 
 -- A station at these hops that has reserved so much of ringlets 0 and 1.
 abbrev pub station : ℕ → ℕ → ℕ → ℕ → ℕ → Station

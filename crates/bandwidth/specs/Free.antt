@@ -3,13 +3,23 @@
 -- counted once, on open and closed rings alike (source document 000, equation 10.6). The result may be below zero; below zero on either ringlet is the
 -- excess-reserved defect. Refusals: 31 if a station is behind, with the lowest such address; before it, 4 for a link rate out of range, then 32 at level 1;
 -- refused, both numbers are 0." It replaces nothing of 01.
-use Rattle.std.specs.Prelude.{ℕ, ◌+◌, Bool, false, not, cond, ◌||◌, List, [], ◌∷◌, ℤ, pos, ◌-ℤ◌, eqb, ltb}
+use Rattle.std.specs.Prelude.{ℕ, ◌+◌, Bool, false, not, cond, ◌||◌, List, [], ◌∷◌, ℤ, pos, ◌-ℤ◌, eqb, ltb, Result, Ok, Err}
 use Rattle.std.proofs.Math.Option.{Option, none, some}
 use Rattle.std.specs.Int.Signed.{lt_z}
 use Rattle.blocks.specs.Types.{bandwidths, among}
 use Rattle.stations.specs.declared.station.Station.{Station}
 use Rattle.controller.specs.State.{State}
-pub use Rattle.bandwidth.specs.declared.free.Free.{Free}
+use Rattle.bandwidth.specs.declared.free.Free.{Free as Left}
+pub use Rattle.bandwidth.specs.declared.free.Unanswered.{Unanswered}
+pub use Rattle.bandwidth.specs.declared.free.Unanswered.TheVariants.{RateTooHigh, LevelTooLow, Behind}
+
+-- The answer: a number, 0 or that of a refusal, the address that 31 comes with, what is left of each ringlet, and the excess-reserved defect.
+pub record Free : Type 0 where
+  pub result : ℕ
+  pub address : ℕ
+  pub ringlet0 : ℤ
+  pub ringlet1 : ℤ
+  pub excess : Bool
 
 -- What a station has reserved on a ringlet.
 abbrev pub reservation : ℕ → Station → ℕ
@@ -46,6 +56,21 @@ answered ringlet0 ringlet1 = record {
   ringlet1 = ringlet1;
   excess = below_zero ringlet0 || below_zero ringlet1;
 }
+
+-- 01: "Whenever an answer is an enum, a definition gives this paper's number and values for each of the enum's cases."
+abbrev pub number : Unanswered → ℕ
+number RateTooHigh = 4
+number LevelTooLow = 32
+number (Behind address) = 31
+
+abbrev pub lowest : Unanswered → ℕ
+lowest RateTooHigh = 0
+lowest LevelTooLow = 0
+lowest (Behind address) = address
+
+abbrev pub free_as : Result Left Unanswered → Free
+free_as (Ok x) = answered x.ringlet0 x.ringlet1
+free_as (Err u) = refused (number u) (lowest u)
 
 abbrev pub unless_behind : Option ℕ → Free → Free
 unless_behind none x = x

@@ -1,9 +1,9 @@
 // What is left of each ringlet, for the replication planner.
 // Follows 02, Item 1.
-// Stands on controller, stations and wire.
+// Stands on controller and stations.
 #![tactic(auto)]
 
 mod free;
 mod sums;
 
-pub use free::{Free, free_bandwidth};
+pub use free::{Free, Unanswered, free_bandwidth};

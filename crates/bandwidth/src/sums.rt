@@ -1,53 +1,35 @@
 // The reservations of all stations, from one pass over the table.
-ghost use Rattle.std.specs.Prelude.{◌≡◌, []};
-ghost use Rattle.std.proofs.Math.Option.{some};
-ghost use Rattle.stations.specs.Rows.{RowsKept, stations_in};
-ghost use Rattle.bandwidth.specs.Steps.{sums_with, sums_of};
+ghost use Rattle.std.specs.Prelude.{◌≡◌, ◌≤◌, ◌*◌, length, IfOk};
+ghost use Rattle.stations.specs.Stations.{capacity};
+ghost use Rattle.bandwidth.specs.Steps.{sums_of};
 
-use controller::ROW_WORDS;
+use crate::free::Unanswered;
+use stations::Station;
 
-// All reservations of each ringlet; or, where a station is behind, the address of the first one.
-#[derive(Clone, Copy)]
+// All reservations of each ringlet.
+#[derive(Clone, Copy, Debug, PartialEq, Eq)]
 pub struct Sums {
-    pub address: u64,
     pub ringlet0: u32,
     pub ringlet1: u32,
-    pub behind: bool,
-}
-
-fn behind_with(address: u64) -> Sums
-    ensures { result ≡ sums_with (some address) [] }
-{
-    Sums {
-        address,
-        ringlet0: 0,
-        ringlet1: 0,
-        behind: true,
-    }
 }
 
 // The stations stand in ascending order, so the first that is behind has the lowest address.
-pub(crate) fn add_up(rows: &[u64; ROW_WORDS]) -> Sums
-    requires { RowsKept rows.now }
-    ensures { result ≡ sums_of (stations_in rows.now) }
+#[tactic(auto, unfolding(crate::specs::Steps::sums_from), using(crate::proofs::Summing::from_none))]
+pub(crate) fn add_up(stations: &[Station]) -> Result<Sums, Unanswered>
+    requires { length stations.now ≤ capacity }
+    ensures sums { result ≡ sums_of stations.now }
+    ensures low { IfOk result (λ s. (s.ringlet0 ≤ 65535 * capacity) × (s.ringlet1 ≤ 65535 * capacity)) }
 {
-    let n = stations::station_count(rows);
-    let mut ringlet0: u32 = 0;
-    let mut ringlet1: u32 = 0;
-    let mut i: usize = 0;
-    while i < n {
-        let x = stations::attributes_at(rows, i);
-        if x.behind {
-            return behind_with(stations::address_at(rows, i));
+    let mut ringlet0 = 0;
+    let mut ringlet1 = 0;
+    for s in stations {
+        if s.behind {
+            return Err(Unanswered::Behind(s.address));
         }
-        ringlet0 += x.reserved0 as u32;
-        ringlet1 += x.reserved1 as u32;
-        i += 1;
+        // Both are read before the first call, behind which the range of a field of `s` is no longer known.
+        let (reserved0, reserved1) = (s.reserved0, s.reserved1);
+        ringlet0 += u32::from(reserved0);
+        ringlet1 += u32::from(reserved1);
     }
-    Sums {
-        address: 0,
-        ringlet0,
-        ringlet1,
-        behind: false,
-    }
+    Ok(Sums { ringlet0, ringlet1 })
 }

@@ -14,17 +14,14 @@ use Rattle.blocks.specs.Types.{among, knows, good}
 use Rattle.blocks.specs.Meaning.{sound, known, has, behind}
 use Rattle.stations.specs.declared.station.Station.{Station}
 use Rattle.stations.specs.Stations.{capacity}
-use Rattle.stations.specs.Table.{blank, table_of}
-use Rattle.stations.specs.Rows.{image, table_in}
 use Rattle.controller.specs.Node.{Node, state_of, started_with, steering}
-use Rattle.controller.specs.Own.{own_of}
 use Rattle.controller.specs.Record.{outcomes}
 use Rattle.bench.specs.Records.{ticks, record_of}
 use Rattle.bench.specs.Ring.{taken_in, taken, joined, ring_to, ring_of, parted, forced}
 use Rattle.bench.specs.Runs.{told, pointed, station, addressee, standing, readied}
 
 unfoldable pub three : Node
-unfolding ring_of ring_to joined taken started_with settings_in head_of broken full_in fields_of in_range address_at own_of table_of image table_in ticks_of blank report_bytes outcomes
+unfolding ring_of ring_to joined taken started_with settings_in head_of broken full_in fields_of in_range address_at ticks_of report_bytes outcomes
 three = ring_of 3
 
 -- The hops of each station, ringlet 0 first.
@@ -76,7 +73,7 @@ three-replies = refl
 
 -- Two rings that are being joined fill every place ..
 unfoldable pub full : Node
-unfolding ring_of ring_to joined taken started_with settings_in head_of broken full_in fields_of in_range address_at own_of table_of image table_in ticks_of blank report_bytes outcomes
+unfolding ring_of ring_to joined taken started_with settings_in head_of broken full_in fields_of in_range address_at ticks_of report_bytes outcomes
 full = ring_of capacity
 
 pub full-count : length (state_of full).stations ≡ capacity

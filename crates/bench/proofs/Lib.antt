@@ -1,4 +1,1 @@
-pub mod Packs
-pub mod Taking
-pub mod Turns
 pub mod Examples

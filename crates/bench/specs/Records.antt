@@ -1,7 +1,6 @@
 -- The fixed records of the runs. An address is 02-00-00-00-high-low.
-use Rattle.std.specs.Prelude.{ℕ, ◌+◌, ◌-◌, ◌/◌, ◌%◌, ◌≤◌, ◌≡◌, cond, List, [], ◌∷◌, length, take, eqb, ltb}
+use Rattle.std.specs.Prelude.{ℕ, ◌+◌, ◌-◌, ◌/◌, ◌%◌, cond, List, [], ◌∷◌, eqb, ltb}
 use Rattle.stations.specs.Station.{farthest}
-use Rattle.bench.specs.declared.records.Packed.{Packed}
 
 -- Level 2, address 02-00-00-00-00-01, WTR 0, hold-off 0, keepalive 50 ms, fast 10 ms, slow 2 steps of 50 ms, forget 600 steps of 100 ms.
 abbrev pub settings : List ℕ
@@ -54,8 +53,3 @@ record_of stations which =
     (cond (eqb which 7) (operator 1 0)
     (cond (eqb which 8) unknown
     (cond (eqb which 9) (report 0 1 0 255) [])))))))))
-
--- A record stands at the front of the bytes.
-pub record Holds (b : List ℕ) (r : Packed) : Type 0 where
-  pub front : take r.length r.bytes ≡ b
-  pub within : r.length ≤ length r.bytes

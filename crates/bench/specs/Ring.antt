@@ -1,10 +1,9 @@
 -- The ring that every run starts from: a node and the stations around it, heard both ways; or, of more stations than hops, two rings that are being joined.
-use Rattle.std.specs.Prelude.{ℕ, zero, suc, ◌+◌, ◌-◌, ◌≡◌, cond, List, eqb, ltb}
+use Rattle.std.specs.Prelude.{ℕ, zero, suc, ◌+◌, ◌-◌, cond, List, eqb, ltb}
 use Rattle.stations.specs.Station.{farthest}
 use Rattle.stations.specs.Stations.{capacity}
 use Rattle.controller.specs.Record.{outcomes}
 use Rattle.controller.specs.Node.{Node, Answer, state_of, started_with, answer_of}
-use Rattle.controller.specs.Kept.{Kept}
 use Rattle.bench.specs.Records.{settings, operator, report}
 
 -- A record taken, with so much room; and with room for the seven bytes of a report.
@@ -14,10 +13,6 @@ taken_in room n b = answer_of n (outcomes (state_of n) b room)
 unfoldable pub taken : Node → List ℕ → Answer
 unfolding taken_in
 taken n b = taken_in 7 n b
-
-pub record Took (room : ℕ) (n : Node) (b : List ℕ) (a : Answer) : Type 0 where
-  pub is : a ≡ taken_in room n b
-  pub kept : Kept a.node
 
 -- A number above that of the places counts as that.
 abbrev pub capped : ℕ → ℕ
@@ -50,8 +45,3 @@ parted stations n = (taken n (report 1 (cond (eqb stations 0) 1 stations) 1 2)).
 -- FS from the operator on both spans: no way is open.
 unfoldable pub forced : Node → Node
 forced n = (taken (taken n (operator 0 5)).node (operator 1 5)).node
-
--- A node, and what is kept of it.
-pub record Stands (is : Node) (n : Node) : Type 0 where
-  pub same : n ≡ is
-  pub kept : Kept n

@@ -3,9 +3,8 @@ use Rattle.std.specs.Prelude.{ℕ, zero, suc, ◌+◌, ◌*◌, cond, List, eqb,
 use Rattle.stations.specs.Stations.{capacity}
 use Rattle.ways.specs.declared.choice.Steering.{Steering}
 use Rattle.ways.specs.Choice.{number}
-use Rattle.controller.specs.declared.ask.Shown.{Shown}
-use Rattle.controller.specs.Node.{Node, Answer}
-use Rattle.bandwidth.specs.declared.free.Free.{Free}
+use Rattle.controller.specs.Node.{Node, Answer, Shown}
+use Rattle.bandwidth.specs.Free.{Free}
 use Rattle.bench.specs.Records.{middle}
 use Rattle.bench.specs.Ring.{taken_in, ring_of, parted, forced}
 
@@ -50,6 +49,6 @@ standing stations which = cond (ltb which 4) (ring_of stations) (forced (ring_of
 unfoldable pub readied : ℕ → ℕ → Node
 readied stations which = cond (eqb which 9) (parted stations (ring_of stations)) (ring_of stations)
 
--- The bytes of a node: 27 words of its own; the number of stations, and three words a place.
+-- The bytes of a node: its settings, two spans and the pacer; 24 a place, and the number of stations.
 abbrev pub node_bytes : ℕ
-node_bytes = 8 * (27 + (1 + 3 * capacity))
+node_bytes = 24 + 2 * 16 + 8 + (24 * capacity + 8)

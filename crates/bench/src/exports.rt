@@ -1,44 +1,42 @@
 // What a benchmark calls.
-ghost use Rattle.std.specs.Prelude.{◌≡◌, ◌*◌, ◌≤◌, length};
-ghost use Rattle.stations.specs.Stations.{capacity};
-ghost use Rattle.controller.specs.Node.{node, state_of, steering, asked};
+ghost use Rattle.std.specs.Prelude.{◌≡◌, ◌*◌, length};
+ghost use Rattle.controller.specs.Node.{state_of, steering, asked};
 ghost use Rattle.bandwidth.specs.Free.{free_bandwidth};
 ghost use Rattle.bench.specs.Records.{ticks, record_of};
-ghost use Rattle.bench.specs.Ring.{Stands, capped, ring_of};
+ghost use Rattle.bench.specs.Ring.{capped, ring_of};
 ghost use Rattle.bench.specs.Runs.{carried, pointed, weighed, freed, station, addressee, standing, readied, node_bytes};
 
 use crate::records::{middle, record_of, ticks};
-use crate::ring::{capped, force, part, ring};
-use crate::runs::{carry, free_all, show_all, steer_all};
-use controller::{OWN_WORDS, ROW_WORDS};
+use crate::ring::{Size, force, part, ring};
+use crate::runs::{carry, free_sum, repeat, shown_sum, way_sum};
+use controller::Node;
 
 // The ring alone: how many stations are in the table.
 #[unsafe(no_mangle)]
 pub extern "C" fn bench_setup(stations: u32) -> u64
     ensures { result ≡ length (state_of (ring_of (capped stations))).stations }
 {
-    let mut own = [0; OWN_WORDS];
-    let mut rows = [0; ROW_WORDS];
-    ring(&mut own, &mut rows, capped(stations));
-    controller::station_count(&own, &rows) as u64
+    let mut node = Node::new();
+    ring(&mut node, Size::capped(stations));
+    node.station_count() as u64
 }
 
-// The bytes of a node, which its caller lends: what a call needs of the stack is besides them.
+// The bytes of a node, which its caller keeps: what a call needs of the stack is besides them.
 #[unsafe(no_mangle)]
 pub extern "C" fn bench_node() -> u64
     ensures { result ≡ node_bytes }
 {
-    ((OWN_WORDS + ROW_WORDS) * 8) as u64
+    size_of::<Node>() as u64
 }
 
-// The node that takes the record of a number.
-fn ready(own: &mut [u64; OWN_WORDS], rows: &mut [u64; ROW_WORDS], stations: u8, which: u32)
-    requires { stations ≤ capacity }
-    ensures { Stands (readied stations which) (node own.new rows.new) }
+// The node that takes the record of a number; numbers and no enum, here and below: C calls with them.
+#[tactic(auto, unfolding(crate::specs::Runs::readied))]
+fn ready(node: &mut Node, size: Size, which: u32)
+    ensures { node.new ≡ readied size.stations which }
 {
-    ring(own, rows, stations);
+    ring(node, size);
     if which == 9 {
-        part(own, rows, stations);
+        part(node, size);
     }
 }
 
@@ -51,15 +49,11 @@ fn ready(own: &mut [u64; OWN_WORDS], rows: &mut [u64; ROW_WORDS], stations: u8, 
 pub extern "C" fn bench_record(stations: u32, which: u32, calls: u32) -> u64
     ensures { result ≡ carried 7 (record_of (capped stations) which) calls (readied (capped stations) which) }
 {
-    let s = capped(stations);
-    let chosen = record_of(s, which);
-    let bytes = chosen.bytes;
-    let end = chosen.length;
-    let mut own = [0; OWN_WORDS];
-    let mut rows = [0; ROW_WORDS];
-    let mut out = [0u8; 7];
-    ready(&mut own, &mut rows, s, which);
-    carry(&mut own, &mut rows, &bytes[..end], &mut out, calls)
+    let size = Size::capped(stations);
+    let record = record_of(size, which);
+    let mut node = Node::new();
+    ready(&mut node, size, which);
+    carry(&mut node, &record, &mut [0; 7], calls)
 }
 
 // The ring, then `calls` times so many ticks in one record, with room for 1,000 reports.
@@ -67,45 +61,40 @@ pub extern "C" fn bench_record(stations: u32, which: u32, calls: u32) -> u64
 pub extern "C" fn bench_ticks(stations: u32, many: u32, calls: u32) -> u64
     ensures { result ≡ carried 7000 (ticks many) calls (ring_of (capped stations)) }
 {
-    let chosen = ticks(many);
-    let bytes = chosen.bytes;
-    let end = chosen.length;
-    let mut own = [0; OWN_WORDS];
-    let mut rows = [0; ROW_WORDS];
-    let mut out = [0u8; 7000];
-    ring(&mut own, &mut rows, capped(stations));
-    carry(&mut own, &mut rows, &bytes[..end], &mut out, calls)
+    let mut node = Node::new();
+    ring(&mut node, Size::capped(stations));
+    carry(&mut node, &ticks(many), &mut [0; 7000], calls)
 }
 
 // 02-00-00-00-01-k.
 fn station(k: u8) -> u64
     ensures { result ≡ station k }
 {
-    2199023255808 + k as u64
+    2199023255808 + u64::from(k)
 }
 
-// Who is asked for.
-fn addressee(stations: u8, which: u32) -> u64
-    requires { stations ≤ capacity }
-    ensures { result ≡ addressee stations which }
+// Who is asked for by a number.
+#[tactic(auto, unfolding(crate::specs::Runs::addressee))]
+fn addressee(size: Size, which: u32) -> u64
+    ensures { result ≡ addressee size.stations which }
 {
+    let stations = size.stations;
     match which {
         0 => station(1),
-        1 => station(middle(stations)),
         2 => station(stations),
         3 => station(255),
         _ => station(middle(stations)),
     }
 }
 
-// The node that is asked.
-fn stand(own: &mut [u64; OWN_WORDS], rows: &mut [u64; ROW_WORDS], stations: u8, which: u32)
-    requires { stations ≤ capacity }
-    ensures { Stands (standing stations which) (node own.new rows.new) }
+// The node that is asked by a number.
+#[tactic(auto, unfolding(crate::specs::Runs::standing))]
+fn stand(node: &mut Node, size: Size, which: u32)
+    ensures { node.new ≡ standing size.stations which }
 {
-    ring(own, rows, stations);
+    ring(node, size);
     if 4 <= which {
-        force(own, rows);
+        force(node);
     }
 }
 
@@ -115,11 +104,11 @@ fn stand(own: &mut [u64; OWN_WORDS], rows: &mut [u64; ROW_WORDS], stations: u8, 
 pub extern "C" fn bench_steer(stations: u32, which: u32, calls: u32) -> u64
     ensures { result ≡ calls * pointed (steering (state_of (standing (capped stations) which)) (addressee (capped stations) which)) }
 {
-    let s = capped(stations);
-    let mut own = [0; OWN_WORDS];
-    let mut rows = [0; ROW_WORDS];
-    stand(&mut own, &mut rows, s, which);
-    steer_all(&own, &rows, addressee(s, which), calls)
+    let size = Size::capped(stations);
+    let mut node = Node::new();
+    stand(&mut node, size, which);
+    let address = addressee(size, which);
+    repeat(calls, |zero| way_sum(&node, address + u64::from(zero)))
 }
 
 // The ring, then `calls` times the attributes of the same stations.
@@ -127,11 +116,11 @@ pub extern "C" fn bench_steer(stations: u32, which: u32, calls: u32) -> u64
 pub extern "C" fn bench_attributes(stations: u32, which: u32, calls: u32) -> u64
     ensures { result ≡ calls * weighed (asked (state_of (standing (capped stations) which)) (addressee (capped stations) which)) }
 {
-    let s = capped(stations);
-    let mut own = [0; OWN_WORDS];
-    let mut rows = [0; ROW_WORDS];
-    stand(&mut own, &mut rows, s, which);
-    show_all(&own, &rows, addressee(s, which), calls)
+    let size = Size::capped(stations);
+    let mut node = Node::new();
+    stand(&mut node, size, which);
+    let address = addressee(size, which);
+    repeat(calls, |zero| shown_sum(&node, address + u64::from(zero)))
 }
 
 // The ring, then `calls` times what is left of each ringlet at this link rate.
@@ -139,8 +128,7 @@ pub extern "C" fn bench_attributes(stations: u32, which: u32, calls: u32) -> u64
 pub extern "C" fn bench_free(stations: u32, rate: u32, calls: u32) -> u64
     ensures { result ≡ calls * freed (free_bandwidth (state_of (ring_of (capped stations))) rate 1 2) }
 {
-    let mut own = [0; OWN_WORDS];
-    let mut rows = [0; ROW_WORDS];
-    ring(&mut own, &mut rows, capped(stations));
-    free_all(&own, &rows, rate, calls)
+    let mut node = Node::new();
+    ring(&mut node, Size::capped(stations));
+    repeat(calls, |zero| free_sum(&node, rate + zero))
 }

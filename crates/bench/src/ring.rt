@@ -1,120 +1,103 @@
 // The ring that every run starts from.
-ghost use Rattle.std.specs.Prelude.{◌≡◌, cond, ◌≤◌, eqb, length, take};
+ghost use Rattle.std.specs.Prelude.{◌≡◌, ◌≤◌};
 ghost use Rattle.stations.specs.Stations.{capacity};
-ghost use Rattle.controller.specs.Kept.{Kept};
-ghost use Rattle.controller.specs.Node.{node, answer_in};
-ghost use Rattle.bench.specs.Ring.{taken, Took, Stands, capped, around, alone, joined, ring_of, parted, forced};
+ghost use Rattle.bench.specs.Ring.{taken, capped, around, alone, joined, ring_of, parted, forced};
 
-use crate::records::{Packed, brief, report};
-use controller::{OWN_WORDS, ROW_WORDS, Returned};
+use crate::records::{operator, report};
+use controller::Node;
 use stations::{FARTHEST_HOP, PLACES};
 
 // Kind 32: level 2, address 02-00-00-00-00-01, WTR 0, hold-off 0, keepalive 50, fast 10, slow 2, forget 600.
 const SETTINGS: [u8; 19] = [17, 0, 32, 0, 2, 2, 0, 0, 0, 0, 1, 0, 0, 0, 50, 10, 2, 88, 2];
 
-// A record taken, with room for a report.
-pub(crate) fn take(
-    own: &mut [u64; OWN_WORDS],
-    rows: &mut [u64; ROW_WORDS],
-    bytes: &[u8],
-) -> Returned
-    requires { Kept (node own.old rows.old) }
-    ensures { Took 7 (node own.old rows.old) bytes.now (answer_in own.new rows.new result) }
+// A record taken, with room for a report. The ring is laid out whatever is answered.
+#[tactic(auto, unfolding(crate::specs::Ring::taken, crate::specs::Ring::taken_in))]
+fn take(node: &mut Node, bytes: &[u8])
+    ensures { node.new ≡ (taken node.old bytes.now).node }
 {
-    let mut out = [0u8; 7];
-    controller::take_record(own, rows, bytes, &mut out)
+    let _ = node.take_record(bytes, &mut [0; 7]);
 }
 
-// The node after a record.
-fn after(own: &mut [u64; OWN_WORDS], rows: &mut [u64; ROW_WORDS], r: Packed)
-    requires { Kept (node own.old rows.old) × (r.length ≤ length r.bytes) }
-    ensures { Stands (taken (node own.old rows.old) (take r.length r.bytes)).node (node own.new rows.new) }
-{
-    let bytes = r.bytes;
-    let end = r.length;
-    take(own, rows, &bytes[..end]);
+// How many stations a ring has: no more than there are places.
+#[derive(Clone, Copy, Debug, PartialEq, Eq)]
+pub(crate) struct Size {
+    pub(crate) stations: u8,
+    ghost fits: { stations ≤ capacity },
 }
 
-// A number above that of the places counts as that.
-pub(crate) fn capped(stations: u32) -> u8
-    ensures { (result ≡ capped stations) × (result ≤ capacity) }
-{
-    if PLACES < stations as usize {
-        return PLACES as u8;
+impl Size {
+    // A number above that of the places counts as that.
+    pub(crate) fn capped(stations: u32) -> Size
+        ensures { result.stations ≡ capped stations }
+    {
+        Size {
+            stations: stations.min(PLACES as u32) as u8,
+        }
     }
-    stations as u8
 }
 
 // Station k of a ring is heard on both ringlets.
-fn join_around(own: &mut [u64; OWN_WORDS], rows: &mut [u64; ROW_WORDS], stations: u8, k: u8)
-    requires { Kept (node own.old rows.old) × (1 ≤ k) × (k ≤ stations) × (stations ≤ capacity) }
-    ensures { Stands (around stations k (node own.old rows.old)) (node own.new rows.new) }
+#[tactic(auto, unfolding(crate::specs::Ring::around))]
+fn join_around(node: &mut Node, size: Size, k: u8)
+    requires first { 1 ≤ k }
+    requires last { k ≤ size.stations }
+    ensures { node.new ≡ around size.stations k node.old }
 {
-    after(own, rows, report(0, k, 1, k));
-    after(own, rows, report(1, stations + 1 - k, 1, k));
+    take(node, &report(0, k, 1, k));
+    take(node, &report(1, size.stations + 1 - k, 1, k));
 }
 
 // Station k of two rings that are being joined is heard on one ringlet alone.
-fn join_alone(own: &mut [u64; OWN_WORDS], rows: &mut [u64; ROW_WORDS], k: u8)
-    requires { Kept (node own.old rows.old) × (1 ≤ k) }
-    ensures { Stands (alone k (node own.old rows.old)) (node own.new rows.new) }
+#[tactic(auto, unfolding(crate::specs::Ring::alone))]
+fn join_alone(node: &mut Node, k: u8)
+    requires { 1 ≤ k }
+    ensures { node.new ≡ alone k node.old }
 {
     if FARTHEST_HOP < k {
-        after(own, rows, report(1, k - FARTHEST_HOP, 1, k));
+        take(node, &report(1, k - FARTHEST_HOP, 1, k));
     } else {
-        after(own, rows, report(0, k, 1, k));
+        take(node, &report(0, k, 1, k));
     }
 }
 
 // Station k is heard. More stations than hops are those of two rings.
-fn join(own: &mut [u64; OWN_WORDS], rows: &mut [u64; ROW_WORDS], stations: u8, k: u8)
-    requires { Kept (node own.old rows.old) × (1 ≤ k) × (k ≤ stations) × (stations ≤ capacity) }
-    ensures { Stands (joined stations k (node own.old rows.old)) (node own.new rows.new) }
+#[tactic(auto, unfolding(crate::specs::Ring::joined))]
+fn join(node: &mut Node, size: Size, k: u8)
+    requires first { 1 ≤ k }
+    requires last { k ≤ size.stations }
+    ensures { node.new ≡ joined size.stations k node.old }
 {
-    if FARTHEST_HOP < stations {
-        join_alone(own, rows, k);
+    if FARTHEST_HOP < size.stations {
+        join_alone(node, k);
     } else {
-        join_around(own, rows, stations, k);
+        join_around(node, size, k);
     }
 }
 
-// The ring of so many stations.
-pub(crate) fn ring(own: &mut [u64; OWN_WORDS], rows: &mut [u64; ROW_WORDS], stations: u8)
-    requires { stations ≤ capacity }
-    ensures { Stands (ring_of stations) (node own.new rows.new) }
+// The ring of so many stations. The node is lent: returned, up to three more would lie on the stack of a run.
+#[tactic(auto, unfolding(crate::specs::Ring::ring_of))]
+pub(crate) fn ring(node: &mut Node, size: Size)
+    ensures { node.new ≡ ring_of size.stations }
 {
-    let settings = SETTINGS;
-    controller::start(&settings, own, rows);
-    let mut k: u8 = 0;
-    while k < stations {
-        k += 1;
-        join(own, rows, stations, k);
+    let _ = node.start(&SETTINGS);
+    for k in 1..=size.stations {
+        join(node, size, k);
     }
-}
-
-// The hop of station 1 on ringlet 1.
-fn last_hop(stations: u8) -> u8
-    ensures { (result ≡ cond (eqb stations 0) 1 stations) × (1 ≤ result) }
-{
-    if stations == 0 {
-        return 1;
-    }
-    stations
 }
 
 // Station 2 takes the hop of station 1 on ringlet 1.
-pub(crate) fn part(own: &mut [u64; OWN_WORDS], rows: &mut [u64; ROW_WORDS], stations: u8)
-    requires { Kept (node own.old rows.old) }
-    ensures { Stands (parted stations (node own.old rows.old)) (node own.new rows.new) }
+#[tactic(auto, unfolding(crate::specs::Ring::parted))]
+pub(crate) fn part(node: &mut Node, size: Size)
+    ensures { node.new ≡ parted size.stations node.old }
 {
-    after(own, rows, report(1, last_hop(stations), 1, 2));
+    take(node, &report(1, size.stations.max(1), 1, 2));
 }
 
 // FS from the operator on both spans.
-pub(crate) fn force(own: &mut [u64; OWN_WORDS], rows: &mut [u64; ROW_WORDS])
-    requires { Kept (node own.old rows.old) }
-    ensures { Stands (forced (node own.old rows.old)) (node own.new rows.new) }
+#[tactic(auto, unfolding(crate::specs::Ring::forced))]
+pub(crate) fn force(node: &mut Node)
+    ensures { node.new ≡ forced node.old }
 {
-    after(own, rows, brief(4, 4, 0, 5));
-    after(own, rows, brief(4, 4, 1, 5));
+    take(node, &operator(0, 5));
+    take(node, &operator(1, 5));
 }

@@ -8,10 +8,8 @@ use Rattle.wire.specs.Report.{report_bytes}
 use Rattle.settings.specs.Ticks.{ticks_of}
 use Rattle.settings.specs.Ranges.{in_range}
 use Rattle.settings.specs.Reading.{fields_of, full_in, settings_in}
-use Rattle.stations.specs.Table.{blank, table_of}
-use Rattle.stations.specs.Rows.{table_in}
+use Rattle.stations.specs.Table.{blank}
 use Rattle.controller.specs.Reading.{Refused, reading}
-use Rattle.controller.specs.Own.{own_of}
 use Rattle.controller.specs.Record.{outcomes}
 use Rattle.controller.specs.Node.{state_of, started_with}
 use Rattle.controller.specs.Drill.{reports, settings_record, records}
@@ -23,7 +21,7 @@ drill_starts = refl
 pub drill-reports : reports (started_with settings_record).node records
     ≡ (5 ∷ 0 ∷ 16 ∷ 0 ∷ 1 ∷ 4 ∷ 0 ∷ []) ∷ (5 ∷ 0 ∷ 16 ∷ 0 ∷ 2 ∷ 0 ∷ 0 ∷ []) ∷ [] ∷ [] ∷ [] ∷ (5 ∷ 0 ∷ 16 ∷ 0 ∷ 3 ∷ 2 ∷ 0 ∷ [])
     ∷ (5 ∷ 0 ∷ 16 ∷ 0 ∷ 4 ∷ 3 ∷ 0 ∷ []) ∷ [] ∷ []
-unfolding reports started_with settings_in head_of broken full_in fields_of in_range address_at table_of table_in ticks_of blank report_bytes own_of
+unfolding reports started_with settings_in head_of broken full_in fields_of in_range address_at ticks_of blank report_bytes
 drill-reports = refl
 
 -- 1 before 2: no byte of a record, and a room of six.
@@ -34,5 +32,5 @@ room_first own = refl
 -- 02, Item 4: thirty ticks in one record, with room for as many reports. Each has its closing steps, so that the 10th, the 20th and the 30th write one.
 pub many-reports : (outcomes (state_of (started_with settings_record).node) (4 ∷ 0 ∷ 7 ∷ 0 ∷ 30 ∷ 0 ∷ []) 210).report
     ≡ report_bytes 0 0 0 ++ (report_bytes 0 0 0 ++ report_bytes 0 0 0)
-unfolding outcomes started_with settings_in head_of broken full_in fields_of in_range address_at table_of table_in ticks_of blank report_bytes own_of
+unfolding outcomes started_with settings_in head_of broken full_in fields_of in_range address_at ticks_of blank report_bytes
 many-reports = refl

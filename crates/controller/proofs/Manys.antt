@@ -2,13 +2,11 @@
 use Prim.Native.Nat.{ℕ, ◌*◌, ◌<◌, ◌≤◌}
 use mathlib.Core.Path.{◌≡◌, refl, sym, ap}
 use mathlib.Core.Bool.{Bool, true, false, not, cond, ◌&&◌, true≢false}
-use mathlib.Core.List.{List, [], ◌∷◌}
-use mathlib.Core.Logic.{⊎_elim}
+use mathlib.Core.List.{List}
 use native.Mathlib.Omega.{arith}
 use lib.ListN.{length}
-use types.Run.{OneOf}
 use lib.Dec.{eqb, leb, ltb}
-use borrow.Author.Tests.{eqb-true, eq-eqb, ne_eqb, leb-true, le-leb, ltb-false, le-ltb, not-true}
+use borrow.Author.Tests.{eqb-true, leb-true, le-leb, ltb-false, le-ltb, not-true}
 use Rattle.wire.specs.Head.{kind_of, body_of, broken}
 use Rattle.wire.proofs.Truths.{both}
 use Rattle.controller.specs.Reading.{Reading, Refused, Tick, count_in, ticks_fit, ticks_in, read_in, reading, many_ticks, times_in}
@@ -16,17 +14,6 @@ use Rattle.controller.specs.Closing.{is_tick}
 
 pub refused_no_tick : (i : ℕ) → Refused i ≡ Tick → ⊥
 refused_no_tick i e = true≢false (sym (ap is_tick e))
-
--- The tag of a tick is 1, that of an event which is none from 2 on.
-pub other_tag : OneOf (2 ∷ 3 ∷ 4 ∷ 5 ∷ 6 ∷ []) 1 → ⊥
-other_tag = ⊎_elim (λ e. omega arith) (⊎_elim (λ e. omega arith) (⊎_elim (λ e. omega arith) (⊎_elim (λ e. omega arith) (λ e. omega arith))))
-
-module _ (b : List ℕ) where
-  pub times_many : kind_of b ≡ 7 → count_in (body_of b) ≡ times_in b
-  times_many e = rw (eq-eqb (kind_of b) 7 e)
-
-  pub times_one : (kind_of b ≡ 7 → ⊥) → 1 ≡ times_in b
-  times_one e = rw (ne_eqb (kind_of b) 7 e)
 
 module _ (b : List ℕ) (room : ℕ) where
   abbrev count : ℕ

@@ -1,42 +1,45 @@
 -- A record put together from the code's steps, each known by its equation. Assumes nothing.
-use Prim.Native.Nat.{ℕ, ◌<◌, ◌≤◌, ◌^◌}
+use Prim.Native.Nat.{ℕ, ◌<◌, ◌≤◌}
 use mathlib.Core.Path.{◌≡◌, refl, sym, ◌∙◌, ap, subst}
 use mathlib.Core.Bool.{Bool, true, false, cond}
 use mathlib.Core.List.{List, []}
-use native.Mathlib.Omega.{arith}
 use lib.ListN.{length}
 use lib.Dec.{eqb}
 use borrow.Author.Tests.{eqb-true, eqb-false, lt-ltb, le-ltb}
+use Rattle.std.specs.Prelude.{Result, Ok, Err}
 use Rattle.wire.specs.Fields.{Bytes}
 use Rattle.wire.specs.Head.{kind_of, body_of}
 use Rattle.wire.specs.Report.{over}
+use Rattle.wire.specs.declared.results.Refusal.{Refusal}
+use Rattle.wire.specs.declared.results.Refusal.TheVariants as why
+use Rattle.wire.specs.declared.results.Taken.{Taken}
+use Rattle.wire.specs.declared.results.Taken.TheVariants as how
+use Rattle.wire.specs.Results.{refusal_number, taken_number}
 use Rattle.settings.specs.declared.choice.Settings.{Settings}
 use Rattle.settings.specs.Ticks.{ticks_of}
-use Rattle.pacer.specs.declared.steps.Paced.{Paced}
+use Rattle.pacer.specs.declared.steps.Pacer.{Pacer}
 use Rattle.stations.specs.declared.station.Station.{Station}
-use Rattle.stations.specs.Hearing.{Placed}
-use Rattle.stations.specs.Rows.{RowsKept, stations_in, rows_of, Left, left, left_by}
+use Rattle.stations.specs.Hearing.{Placed, left}
 use Rattle.stations.specs.Stations.{aged}
-use Rattle.stations.proofs.Telling.{stations_rows}
-use Rattle.controller.specs.Reading.{Reading, Refused, Tick, block_of, count_in, read_in, reading, many_ticks, times_in}
+use Rattle.controller.specs.declared.reading.Event.{Event}
+use Rattle.controller.specs.declared.reading.Event.TheVariants as event
+use Rattle.controller.specs.Reading.{Reading, Refused, Tick, reading_of_event, block_of, count_in, read_in, reading, many_ticks, times_in}
 use Rattle.controller.specs.State.{Spans}
 use Rattle.controller.specs.Handling.{acted, gives, judged}
 use Rattle.controller.specs.Closing.{settled, swept, pacing, is_tick, report_of}
 use Rattle.controller.specs.Record.{Outcome, refusal, closed, outcome_of, outcome, ticking, outcomes}
-use Rattle.controller.specs.Own.{settings_on, choice_on, ticks_on, spans_on, pacer_on, own_of}
-use Rattle.controller.specs.Node.{Node, Started, Answer, choice_of, settings_of, node, answer_in, state_of, started_with, answer_of, reports_in}
+use Rattle.controller.specs.Node.{Node, Started, Answer, choice_of, settings_of, returned, answer_in, state_of, started_with, answer_of, reports_in}
 use Rattle.controller.specs.Kept.{Kept, ReadingKept}
 use Rattle.controller.specs.Promise.{Begun, Recorded}
-use Rattle.controller.specs.Steps.{OwnHeld, Settled, paced_in, Reported, TookReading, TookTicks}
-use Rattle.controller.proofs.Packing.{own_settings, own_spans, own_pacer, on_settings, on_pacer, settled-none}
+use Rattle.controller.specs.Steps.{Reported, TookReading, TookTicks}
+use Rattle.controller.proofs.Settling.{settled-none}
 use Rattle.controller.proofs.ReadKept.{read_in_kept}
-use Rattle.controller.proofs.Handled.{judged_kept}
-use Rattle.controller.proofs.Holding.{no_bytes}
+use Rattle.controller.proofs.Holding.{outcome_of_kept, outcome_of_choice}
 use Rattle.controller.proofs.Handing.{judged-settled, refused-leaves}
 use Rattle.controller.proofs.Reports.{over_none, reports_is}
 use Rattle.controller.proofs.Manys.{refused_no_tick, no_many, other_event, one_event, read_many}
 use Rattle.controller.proofs.Ticking.{ticking-one}
-use Rattle.controller.proofs.Nodes.{ages_fit, answer_shows, answer_kept, started_with_shows, started_with_kept, refused_same, kept_own}
+use Rattle.controller.proofs.Nodes.{kept_node, answer_shows, answer_kept, started_with_shows, started_with_kept}
 
 pub begun : (b : List ℕ) (r : Started) → Bytes b → r ≡ started_with b → Begun b r
 begun b r bytes e = record {
@@ -45,139 +48,108 @@ begun b r bytes e = record {
   kept = rw e (started_with_kept b bytes);
 }
 
-module _ {own rows : List ℕ} (k : Kept (node own rows)) (r : Reading) (block : List ℕ) where
-  abbrev c : Settings
-  c = settings_on own
+-- The numbers 1 to 8 are those of refusals.
+pub refuses_number : (q : Refusal) → refusal (refusal_number q) ≡ true
+refuses_number why.NoRoom = refl
+refuses_number why.Broken = refl
+refuses_number why.WrongKind = refl
+refuses_number why.Unfit = refl
+refuses_number why.OwnAddress = refl
+refuses_number why.HopTooHigh = refl
+refuses_number why.NotInTable = refl
+refuses_number why.Malformed = refl
 
-  abbrev spans : Spans
-  spans = acted (ticks_on own) r (spans_on own)
+pub takes_number : (q : Taken) → refusal (taken_number q) ≡ false
+takes_number how.Stored = refl
+takes_number how.WrongRinglet = refl
+takes_number how.SpanDown = refl
+takes_number how.OldReport = refl
+takes_number how.SetAside = refl
+
+-- An event that is read as a tick is one.
+pub event_tick : (e : Event) → reading_of_event e ≡ Tick → e ≡ event.Tick
+event_tick event.Tick h = refl
+event_tick (event.Link n status) h = absurd cc
+event_tick (event.Keepalive n) h = absurd cc
+event_tick (event.Operator n request) h = absurd cc
+event_tick (event.Heard n p) h = absurd cc
+event_tick (event.Block n a) h = absurd cc
+
+-- The node of fields.
+abbrev pub made : Settings → Spans → List Station → Pacer → Node
+made c x l p = record { settings = c; spans = x; stations = l; pacer = p }
+
+module _ (n : Node) (r : Reading) (block : List ℕ) where
+  abbrev acts : Spans
+  acts = acted (ticks_of n.settings) r n.spans
 
   abbrev settles : Spans
-  settles = settled (ticks_on own) (spans_on own) spans
+  settles = settled (ticks_of n.settings) n.spans acts
 
   abbrev placed : Placed
-  placed = judged (choice_on own) r block spans (stations_in rows)
+  placed = judged (choice_of n.settings) r block acts n.stations
 
-  abbrev paces : Paced
-  paces = pacing (ticks_on own) (is_tick r) settles (pacer_on own)
+  -- The stations are judged with the spans after the WTR step.
+  abbrev Judged : List Station → Result Taken Refusal → Type 0
+  Judged m j = left m j ≡ judged (choice_of n.settings) r block settles n.stations
 
-  -- The handler and the WTR step left the words own1.
-  module _ {own1 : List ℕ} (s : Settled spans own own1) where
-    settings1 : settings_on own1 ≡ c
-    settings1 = own_settings c settles (pacer_on own) s.words (on_settings own)
+  judged_is : {m : List Station} (j : Result Taken Refusal) → Judged m j → left m j ≡ placed
+  judged_is j e = e ∙ judged-settled (choice_of n.settings) r block n.spans acts n.stations
 
-    spans1 : spans_on own1 ≡ settles
-    spans1 = own_spans c settles (pacer_on own) s.words s.fits
+  -- A record that is refused leaves the node as it was.
+  refused_node : {m : List Station} (q : Refusal) → Judged m (Err q) → made n.settings settles m n.pacer ≡ n
+  refused_node {m} q j =
+      let e = judged_is (Err q) j in
+      let refuse : refusal placed.result ≡ true = ap (λ (x : Placed). refusal x.result) (sym e) ∙ refuses_number q in
+      let (untouched, calm) = refused-leaves (choice_of n.settings) r block n.spans acts n.stations refuse in
+      let same : settles ≡ n.spans = ap (settled (ticks_of n.settings) n.spans) untouched ∙ settled-none (ticks_of n.settings) n.spans in
+      let stays : m ≡ n.stations = ap (λ (x : Placed). x.stations) e ∙ calm in
+      λ i. made n.settings (same i) (stays i) n.pacer
 
-    pacer1 : pacer_on own1 ≡ pacer_on own
-    pacer1 = own_pacer c settles (pacer_on own) s.words (on_pacer own)
+  pub refused_kept : Kept n → {m : List Station} (q : Refusal) → Judged m (Err q) → Kept (made n.settings settles m n.pacer)
+  refused_kept k q j = subst Kept (sym (refused_node q j)) k
 
-    pub own_held : OwnHeld own1
-    own_held = record {
-      whole =
-          s.words ∙ ap (λ (d : Settings). own_of d settles (pacer_on own)) (sym settings1) ∙ ap (λ (y : Spans). own_of (settings_on own1) y (pacer_on own)) (sym spans1)
-          ∙ ap (own_of (settings_on own1) (spans_on own1)) (sym pacer1);
-    }
+  pub refused : {m : List Station} (q : Refusal) → Judged m (Err q) → (old : List ℕ)
+      → TookReading n r block old old (answer_in (made n.settings settles m n.pacer) (Err q))
+  unfolding outcome_of
+  refused q j old =
+      let result_is : refusal_number q ≡ placed.result = ap (λ (x : Placed). x.result) (judged_is (Err q) j) in
+      let refuse : refusal placed.result ≡ true = ap refusal (sym result_is) ∙ refuses_number q in
+      record {
+        is = (λ i. record { node = refused_node q j i; result = result_is i; reports = 0 }) ∙ rw refuse;
+        content = rw refuse (over_none old);
+      }
 
-    pub forget_fits : (ticks_on own1).forget < 2 ^ 16
-    forget_fits = subst (λ (d : Settings). (ticks_of d).forget < 2 ^ 16) (sym settings1) (omega (arith, k.state.ticks.forget))
+  -- The last step and the purges.
+  pub taken : {m : List Station} (q : Taken) {m2 : List Station} {reports : ℕ} {p : Pacer} {old new : List ℕ} → Judged m (Ok q)
+      → Reported (ticks_of n.settings) (is_tick r) settles n.pacer p old new reports → m2 ≡ swept (ticks_of n.settings) settles m
+      → TookReading n r block old new (answer_in (made n.settings settles m2 p) (Ok (record { reports = reports; taken = q })))
+  unfolding outcome_of closed
+  taken {m} q {m2} {reports} {p} {old} {new} j w e =
+      let result_is : taken_number q ≡ placed.result = ap (λ (x : Placed). x.result) (judged_is (Ok q) j) in
+      let take : refusal placed.result ≡ false = ap refusal (sym result_is) ∙ takes_number q in
+      let swept-is : m2 ≡ swept (ticks_of n.settings) settles placed.stations =
+      e ∙ ap (λ (x : Placed). swept (ticks_of n.settings) settles x.stations) (judged_is (Ok q) j) in
+      let number_is : reports ≡ reports_in (report_of (pacing (ticks_of n.settings) (is_tick r) settles n.pacer)) =
+      w.number ∙ sym (reports_is (pacing (ticks_of n.settings) (is_tick r) settles n.pacer)) in
+      record {
+        is = (λ i. record { node = made n.settings settles (swept-is i) (w.pacer i); result = result_is i; reports = number_is i }) ∙ rw take;
+        content = w.content ∙ rw take;
+      }
 
-    pub reading_fits : ReadingKept c.address r → ReadingKept (settings_on own1).address r
-    reading_fits = subst (λ (d : Settings). ReadingKept d.address r) (sym settings1)
+  -- What a reading leaves is kept.
+  pub took_kept : Kept n → ReadingKept n.settings.address r → Bytes block → {old new : List ℕ} {a : Answer} → TookReading n r block old new a → Kept a.node
+  took_kept k reads bytes v =
+      subst (λ (x : Answer). Kept x.node) (sym v.is)
+      (kept_node n.settings (outcome_of r block (state_of n)).state k.settings (outcome_of_choice r block (state_of n))
+      (outcome_of_kept r block (state_of n) reads bytes k.state))
 
-    -- The stations were judged by own1, and the words rows1 left.
-    module _ {rows1 : List ℕ} {h : ℕ} (j : left rows1 h ≡ left_by (judged (choice_on own1) r block (spans_on own1) (stations_in rows))) where
-      left_is : left rows1 h ≡ left_by placed
-      left_is =
-          j ∙ ap (λ (d : Settings). left_by (judged (choice_of d) r block (spans_on own1) (stations_in rows))) settings1
-          ∙ ap (λ (y : Spans). left_by (judged (choice_on own) r block y (stations_in rows))) spans1
-          ∙ ap left_by (judged-settled (choice_on own) r block (spans_on own) spans (stations_in rows))
-
-      rows_is : rows1 ≡ rows_of placed.stations
-      rows_is = ap (λ (q : Left). q.rows) left_is
-
-      result_is : h ≡ placed.result
-      result_is = ap (λ (q : Left). q.result) left_is
-
-      pub refused : refusal h ≡ true → (old : List ℕ)
-          → TookReading (node own rows) r block old old (answer_in own1 rows1 (record { result = h; reports = 0 }))
-      unfolding outcome_of
-      refused is-refused old =
-          let refuse : refusal placed.result ≡ true = sym (ap refusal result_is) ∙ is-refused in
-          let (untouched, calm) = refused-leaves (choice_on own) r block (spans_on own) spans (stations_in rows) refuse in
-          let own_same : own1 ≡ own =
-          s.words ∙ ap (λ (y : Spans). own_of c (settled (ticks_on own) (spans_on own) y) (pacer_on own)) untouched
-          ∙ ap (λ (y : Spans). own_of c y (pacer_on own)) (settled-none (ticks_on own) (spans_on own)) ∙ sym (kept_own k).whole in
-          let rows_same : rows1 ≡ rows = rows_is ∙ ap rows_of calm ∙ sym (ap (λ (m : Node). m.rows) k.whole) in
-          record {
-            is =
-                (λ i. answer_in (own_same i) (rows_same i) (record { result = result_is i; reports = 0 }))
-                ∙ rw refuse (sym (refused_same (node own rows) placed.result k));
-            content = rw refuse (over_none old);
-          }
-
-      module _ (reads : ReadingKept c.address r) (bytes : Bytes block) where
-        stations_left_lem : RowsKept (rows_of placed.stations) × (stations_in (rows_of placed.stations) ≡ placed.stations)
-        stations_left_lem =
-            stations_rows c.address (ticks_on own).forget (choice_on own).known (ages_fit (state_of (node own rows)) k.state) placed.stations
-            (judged_kept (choice_on own) r block spans (stations_in rows) k.state.ticks reads bytes k.state.stations)
-
-        pub rows_kept : RowsKept rows1
-        rows_kept = subst RowsKept (sym rows_is) stations_left_lem.0
-
-        stations1 : stations_in rows1 ≡ placed.stations
-        stations1 = ap stations_in rows_is ∙ stations_left_lem.1
-
-        -- The last step, and the purges.
-        module _ {tick : Bool} {reported : ℕ} {own2 old new : List ℕ} (ticks : tick ≡ is_tick r) (p : Reported tick own1 own2 old new reported) where
-          paced_is : paced_in tick own1 ≡ paces
-          paced_is =
-              ap (λ (b : Bool). paced_in b own1) ticks
-              ∙ ap (λ (d : Settings). pacing (ticks_of d) (is_tick r) (spans_on own1) (pacer_on own1)) settings1
-              ∙ ap (λ (y : Spans). pacing (ticks_on own) (is_tick r) y (pacer_on own1)) spans1
-              ∙ ap (pacing (ticks_on own) (is_tick r) settles) pacer1
-
-          own_is : own2 ≡ own_of c settles paces.pacer
-          own_is =
-              p.words ∙ ap (λ (d : Settings). own_of d (spans_on own1) (paced_in tick own1).pacer) settings1
-              ∙ ap (λ (y : Spans). own_of c y (paced_in tick own1).pacer) spans1 ∙ ap (λ (q : Paced). own_of c settles q.pacer) paced_is
-
-          settings2 : settings_on own2 ≡ c
-          settings2 = own_settings c settles paces.pacer own_is (on_settings own)
-
-          spans2 : spans_on own2 ≡ settles
-          spans2 = own_spans c settles paces.pacer own_is s.fits
-
-          swept_is : {rows2 : List ℕ} → rows2 ≡ rows_of (swept (ticks_on own2) (spans_on own2) (stations_in rows1))
-              → rows2 ≡ rows_of (swept (ticks_on own) settles placed.stations)
-          swept_is e =
-              e ∙ ap (λ (d : Settings). rows_of (swept (ticks_of d) (spans_on own2) (stations_in rows1))) settings2
-              ∙ ap (λ (y : Spans). rows_of (swept (ticks_on own) y (stations_in rows1))) spans2
-              ∙ ap (λ (l : List Station). rows_of (swept (ticks_on own) settles l)) stations1
-
-          reported_is : reported ≡ reports_in (report_of paces)
-          reported_is = p.number ∙ ap (λ (q : Paced). cond q.wrote 1 0) paced_is ∙ sym (reports_is paces)
-
-          pub taken : {rows2 : List ℕ} → refusal h ≡ false → rows2 ≡ rows_of (swept (ticks_on own2) (spans_on own2) (stations_in rows1))
-              → TookReading (node own rows) r block old new (answer_in own2 rows2 (record { result = h; reports = reported }))
-          unfolding outcome_of closed
-          taken is-taken e =
-              let take : refusal placed.result ≡ false = sym (ap refusal result_is) ∙ is-taken in
-              record {
-                is = (λ i. answer_in (own_is i) (swept_is e i) (record { result = result_is i; reports = reported_is i })) ∙ rw take;
-                content = p.content ∙ ap (λ (q : Paced). over (report_of q) old) paced_is ∙ rw take;
-              }
-
--- A tick, from the steps that a tick takes.
-pub tick-taken : {own rows own1 rows1 own2 rows2 old new : List ℕ} {h reports : ℕ} → Kept (node own rows) → Settled (acted (ticks_on own) Tick (spans_on own)) own own1
-    → left rows1 h ≡ left_by (gives 0 (aged (ticks_on own1).forget (stations_in rows))) → Reported true own1 own2 old new reports
-    → rows2 ≡ rows_of (swept (ticks_on own2) (spans_on own2) (stations_in rows1))
-    → TookReading (node own rows) Tick [] old new (answer_in own2 rows2 (record { result = 0; reports = reports }))
+-- A tick, which every station sees.
+pub tick_taken : (n : Node) {m m2 : List Station} {reports : ℕ} {p : Pacer} {old new : List ℕ} → m ≡ aged (ticks_of n.settings).forget n.stations
+    → Reported (ticks_of n.settings) true (settles n Tick []) n.pacer p old new reports → m2 ≡ swept (ticks_of n.settings) (settles n Tick []) m
+    → TookReading n Tick [] old new (answer_in (made n.settings (settles n Tick []) m2 p) (returned reports))
 unfolding judged
-tick-taken {own} {rows} {own1} {rows1} {own2} {rows2} {old} {new} {h} {reports} k s j p e =
-    let zero : h ≡ 0 = ap (λ (q : Left). q.result) j in
-    subst (λ (i : ℕ). TookReading (node own rows) Tick [] old new (answer_in own2 rows2 (record { result = i; reports = reports }))) zero
-    (taken k Tick [] s j tt no_bytes refl p (ap refusal zero) e)
+tick_taken n e = taken n Tick [] how.Stored (ap (gives 0) e)
 
 module _ (n : Node) (k : Kept n) (b old : List ℕ) (bytes : Bytes b) where
   -- What shows and is kept follows from the answer.
@@ -194,7 +166,7 @@ module _ (n : Node) (k : Kept n) (b old : List ℕ) (bytes : Bytes b) where
   unfolding outcomes outcome reading outcome_of judged
   no_room h =
       let single : many_ticks b (length old) ≡ false = no_many b (length old) h in
-      promised (rw (single, lt-ltb (length old) 7 h) (sym (refused_same n 1 k))) (rw (single, lt-ltb (length old) 7 h) (over_none old))
+      promised (rw (single, lt-ltb (length old) 7 h)) (rw (single, lt-ltb (length old) 7 h) (over_none old))
 
   abbrev read_as : Reading
   read_as = read_in (settings_of n).address b (length old)
@@ -206,7 +178,7 @@ module _ (n : Node) (k : Kept n) (b old : List ℕ) (bytes : Bytes b) where
   -- A reading that is refused.
   untaken : (block : List ℕ) (i : ℕ) → refusal i ≡ true → TookReading n (Refused i) block old old (record { node = n; result = i; reports = 0 })
   unfolding outcome_of judged
-  untaken block i h = record { is = rw h (sym (refused_same n i k)); content = rw h (over_none old) }
+  untaken block i h = record { is = rw h; content = rw h (over_none old) }
 
   module _ (r : Reading) (room : 7 ≤ length old) (er : r ≡ read_as) where
     once : {block : List ℕ} → block ≡ block_of b → many_ticks b (length old) ≡ false → outcomes (state_of n) b (length old) ≡ outcome_of r block (state_of n)

@@ -14,12 +14,10 @@ use Rattle.controller.specs.State.{State}
 use Rattle.controller.specs.Handling.{acted, judged}
 use Rattle.controller.specs.Closing.{settled, pacing}
 use Rattle.controller.specs.Record.{closed, outcome_of, ticking}
-use Rattle.controller.specs.Node.{Node, Answer, settings_of, state_of, node_of, node_in, reports_in}
-use Rattle.controller.specs.Kept.{StateKept, Kept}
+use Rattle.controller.specs.Node.{Node, Answer, answer_in, returned, settings_of, state_of, node_of, node_in, reports_in}
 use Rattle.controller.specs.Steps.{TookReading, TookTick, TookTicks}
 use Rattle.controller.proofs.Reports.{over_none, report_whole}
-use Rattle.controller.proofs.Holding.{no_bytes, outcome_of_kept, outcome_of_choice}
-use Rattle.controller.proofs.Nodes.{settings_of_node, state_of_node, kept_node, same_node}
+use Rattle.controller.proofs.Holding.{outcome_of_choice}
 
 -- Whole reports, so many.
 abbrev pub Reports : ℕ → List ℕ → Type 0
@@ -92,29 +90,21 @@ laid_behind t o p d room =
     ∙ (λ i. sym front i ++ sym behind i)
     ∙ ap (λ (x : List ℕ). take (length t + length o) (t ++ over o d) ++ over p x) (sym rest)
 
--- The node after a tick, with its settings and its state.
-module _ (n : Node) (k : Kept n) where
-  abbrev next : State
-  next = (outcome_of Tick [] (state_of n)).state
-
-  next_kept : StateKept next
-  next_kept = outcome_of_kept Tick [] (state_of n) tt no_bytes k.state
-
-  pub tick_kept : Kept (node_in n next)
-  tick_kept = kept_node (settings_of n) next k.settings (outcome_of_choice Tick [] (state_of n)) next_kept
-
-  tick_shows : state_of (node_in n next) ≡ next
-  tick_shows = state_of_node (settings_of n) next k.settings (outcome_of_choice Tick [] (state_of n)) next_kept
-
-  tick-settings : settings_of (node_in n next) ≡ settings_of n
-  tick-settings = settings_of_node (settings_of n) next k.settings
+-- The node after a tick shows the state after it.
+tick_shows : (n : Node) → state_of (node_in n (outcome_of Tick [] (state_of n)).state) ≡ (outcome_of Tick [] (state_of n)).state
+tick_shows n = λ i. record {
+  choice = sym (outcome_of_choice Tick [] (state_of n)) i;
+  spans = (outcome_of Tick [] (state_of n)).state.spans;
+  stations = (outcome_of Tick [] (state_of n)).state.stations;
+  pacer = (outcome_of Tick [] (state_of n)).state.pacer;
+}
 
 -- A tick that was lent the rest of a buffer, which comes back behind the front.
-pub tick-behind : {n : Node} {at : ℕ} {old block new : List ℕ} {a : Answer} → Kept n → at ≤ length old
+pub tick-behind : {n : Node} {at : ℕ} {old block new : List ℕ} {a : Answer} → at ≤ length old
     → TookReading n Tick block (take (length old - at) (drop at old)) new a
     → TookTick n at old (take at old ++ (new ++ drop (length old - at) (drop at old))) a
 unfolding outcome_of judged
-tick-behind {n} {at} {old} {block} {new} {a} k low v =
+tick-behind {n} {at} {old} {block} {new} {a} low v =
     let rest : take (length old - at) (drop at old) ≡ drop at old = take_all (length old - at) (drop at old) (omega (arith, length-drop at old)) in
     let none : drop (length old - at) (drop at old) ≡ [] = drop_of_length-le (drop at old) {i = length old - at} (omega (arith, length-drop at old)) in
     record {
@@ -122,12 +112,10 @@ tick-behind {n} {at} {old} {block} {new} {a} k low v =
       content =
           ap (λ (x : List ℕ). take at old ++ (new ++ x)) none
           ∙ ap (λ (x : List ℕ). take at old ++ x) (append-nil new ∙ v.content ∙ ap (over (told (state_of n))) rest);
-      kept = subst (λ (x : Answer). Kept x.node) (sym v.is) (tick_kept n k);
     }
 
 -- A loop that has begun with the node n₀, so many ticks and the buffer old, and has come to the node n, with some left, and to the buffer out.
 pub record Going (n₀ : Node) (ticks : ℕ) (old : List ℕ) (n : Node) (left reports : ℕ) (out : List ℕ) : Type 0 where
-  pub kept : Kept n
   pub node : node_in n₀ (ticking ticks (state_of n₀)).state ≡ node_in n (ticking left (state_of n)).state
   pub number : reports_in (ticking ticks (state_of n₀)).report ≡ reports + reports_in (ticking left (state_of n)).report
   pub content : over (ticking ticks (state_of n₀)).report old ≡ take (7 * reports) out ++ over (ticking left (state_of n)).report (drop (7 * reports) out)
@@ -135,8 +123,8 @@ pub record Going (n₀ : Node) (ticks : ℕ) (old : List ℕ) (n : Node) (left r
   pub room : 7 * ticks ≤ length old
   pub long : length out ≡ length old
 
-pub begins : (n : Node) (ticks : ℕ) (old : List ℕ) → Kept n → 7 * ticks ≤ length old → Going n ticks old n ticks 0 old
-begins n ticks old k room = record { kept = k; node = refl; number = omega arith; content = refl; few = omega arith; room = room; long = refl }
+pub begins : (n : Node) (ticks left : ℕ) (old : List ℕ) → left ≡ ticks → 7 * ticks ≤ length old → Going n ticks old n left 0 old
+begins n ticks left old all room = rw all (record { node = refl; number = omega arith; content = refl; few = omega arith; room = room; long = refl })
 
 module _ {n₀ : Node} {ticks : ℕ} {old : List ℕ} {n : Node} {reports : ℕ} {out : List ℕ} where
   -- A turn.
@@ -153,8 +141,8 @@ module _ {n₀ : Node} {ticks : ℕ} {old : List ℕ} {n : Node} {reports : ℕ}
       let (more, high) = ticks-reports left (outcome_of Tick [] s).state in
       let node_is : a.node ≡ node_in n (outcome_of Tick [] s).state = ap (λ (x : Answer). x.node) k.is in
       let number_is : a.reports ≡ reports_in o = ap (λ (x : Answer). x.reports) k.is in
-      let shows : state_of a.node ≡ (outcome_of Tick [] s).state = ap state_of node_is ∙ tick_shows n g.kept in
-      let settings : settings_of a.node ≡ settings_of n = ap settings_of node_is ∙ tick-settings n g.kept in
+      let shows : state_of a.node ≡ (outcome_of Tick [] s).state = ap state_of node_is ∙ tick_shows n in
+      let settings : settings_of a.node ≡ settings_of n = ap settings_of node_is in
       let front_long : length front ≡ at = length-take-le at out (omega (arith, g.few, g.room, g.long)) in
       let rest-long : length (drop at out) ≡ length out - at = length-drop at out in
       let space : length o + length p ≤ length (drop at out) = omega (arith, g.few, g.room, g.long) in
@@ -164,7 +152,6 @@ module _ {n₀ : Node} {ticks : ℕ} {old : List ℕ} {n : Node} {reports : ℕ}
       ap length k.content ∙ length-append front (over o (drop at out)) ∙ omega (arith, front_long, rest-long, over_long o (drop at out), g.few, g.room, g.long) in
       let grown : length front + length o ≡ 7 * (reports + a.reports) = omega arith in
       record {
-        kept = k.kept;
         node = g.node ∙ (λ i. node_of (sym settings i) (ticking left (sym shows i)).state);
         number = g.number ∙ omega (arith, both, number_is, ap (λ (z : State). reports_in (ticking left z).report) shows);
         content =
@@ -177,17 +164,17 @@ module _ {n₀ : Node} {ticks : ℕ} {old : List ℕ} {n : Node} {reports : ℕ}
         long = same-long ∙ g.long;
       }
 
-  pub turn : {left : ℕ} {new : List ℕ} {a : Answer} → Going n₀ ticks old n left reports out → 0 < left → TookTick n (7 * reports) out new a
-      → Going n₀ ticks old a.node (left - 1) (reports + a.reports) new
-  turn {left} g more = go left more g
+  pub turn : {left rest at m : ℕ} {next : Node} {new : List ℕ} → Going n₀ ticks old n left reports out → 0 < left → rest ≡ left - 1 → at ≡ 7 * reports
+      → TookTick n at out new (answer_in next (returned m)) → Going n₀ ticks old next rest (reports + m) new
+  turn {left} {rest} {at} {m} {next} {new} g more fewer place k = rw fewer (go left more g (rw place at k))
     where
-      go : (left : ℕ) → 0 < left → Going n₀ ticks old n left reports out → {new : List ℕ} {a : Answer} → TookTick n (7 * reports) out new a
-          → Going n₀ ticks old a.node (left - 1) (reports + a.reports) new
+      go : (left : ℕ) → 0 < left → Going n₀ ticks old n left reports out → TookTick n (7 * reports) out new (answer_in next (returned m))
+          → Going n₀ ticks old next (left - 1) (reports + m) new
       go zero more g k = absurd (omega arith)
-      go (suc left) more g {new} {a} k = subst (λ (m : ℕ). Going n₀ ticks old a.node m (reports + a.reports) new) (omega arith) (turns left g k)
+      go (suc left) more g k = subst (λ (l : ℕ). Going n₀ ticks old next l (reports + m) new) (omega arith) (turns left g k)
 
-  pub turn_fits : {left : ℕ} {new : List ℕ} {a : Answer} → Going n₀ ticks old n left reports out → 0 < left → TookTick n (7 * reports) out new a
-      → reports + a.reports ≤ ticks
+  pub turn_fits : {left at m : ℕ} {next : Node} {new : List ℕ} → Going n₀ ticks old n left reports out → 0 < left
+      → TookTick n at out new (answer_in next (returned m)) → reports + m ≤ ticks
   turn_fits g more k = omega (arith, g.few, more, ap (λ (x : Answer). x.reports) k.is, (tick-reports (state_of n)).1)
 
   -- At the end.
@@ -195,7 +182,7 @@ module _ {n₀ : Node} {ticks : ℕ} {old : List ℕ} {n : Node} {reports : ℕ}
   unfolding ticking
   at_end g = record {
     is = λ i. record {
-      node = (sym (same_node n g.kept) ∙ sym g.node) i;
+      node = (sym g.node) i;
       result = sym (ticking_result ticks (state_of n₀)) i;
       reports = few i;
     };

@@ -1,14 +1,12 @@
 -- The worked drill: its settings, its records, and the reports that they give. Its lines are the drill program's. 01, The drill program.
 use Rattle.std.specs.Prelude.{ℕ, List, [], ◌∷◌}
 use Rattle.spans.specs.Requests.{request}
-use Rattle.stations.specs.Table.{table_of}
-use Rattle.stations.specs.Rows.{image}
 use Rattle.controller.specs.Record.{outcome}
 use Rattle.controller.specs.Node.{Node, state_of, answer_of}
 
 -- The reports that records give.
 unfoldable pub reports : Node → List (List ℕ) → List (List ℕ)
-unfolding outcome table_of image
+unfolding outcome
 reports n [] = []
 reports n (b ∷ l) = (outcome (state_of n) b 7).report ∷ reports (answer_of n (outcome (state_of n) b 7)).node l
 

@@ -1,31 +1,24 @@
--- The node as the program keeps it, in words that the caller lends, and what its calls answer.
-use Rattle.std.specs.Prelude.{ℕ, ◌/◌, cond, List, length}
+-- A node, and what its calls answer.
+use Rattle.std.specs.Prelude.{ℕ, ◌/◌, cond, Result, Ok, Err, List, length}
+use Rattle.std.specs.Prelude.{Option as Maybe, Some, None}
 use Rattle.std.proofs.Math.Option.{Option, none, some}
+use Rattle.wire.specs.declared.results.Refusal.{Refusal}
+use Rattle.wire.specs.declared.results.Taken.TheVariants.{Stored}
+use Rattle.wire.specs.Results.{refusal_number, taken_number}
 use Rattle.settings.specs.declared.choice.Settings.{Settings}
 use Rattle.settings.specs.Reading.{settings_in}
 use Rattle.spans.specs.Requests.{request}
 use Rattle.blocks.specs.declared.attributes.Attributes.{Attributes}
 use Rattle.stations.specs.Stations.{attributes_of}
-use Rattle.stations.specs.Rows.{stations_in, rows_of}
 use Rattle.ways.specs.declared.choice.Reply.{Reply}
 use Rattle.ways.specs.declared.choice.Steering.{Steering}
 use Rattle.ways.specs.Choice.{way_to, steering_to}
+pub use Rattle.controller.specs.State.{Node, choice_of}
 use Rattle.controller.specs.State.{State, started}
 use Rattle.controller.specs.Record.{Outcome}
-use Rattle.controller.specs.Own.{settings_on, choice_on, spans_on, pacer_on, own_of}
-pub use Rattle.controller.specs.Own.{choice_of}
 pub use Rattle.controller.specs.declared.record.Returned.{Returned}
-pub use Rattle.controller.specs.declared.ask.Shown.{Shown}
 
--- A node: the words of its own part, and those of its stations. No code holds them as one value.
-pub record Node : Type 0 where
-  pub own : List ℕ
-  pub rows : List ℕ
-
-abbrev pub node : List ℕ → List ℕ → Node
-node own rows = record { own = own; rows = rows }
-
--- What start and a record leave in the words, and answer.
+-- What start and a record leave, and answer.
 pub record Started : Type 0 where
   pub node : Node
   pub result : ℕ
@@ -35,30 +28,32 @@ pub record Answer : Type 0 where
   pub result : ℕ
   pub reports : ℕ
 
-abbrev pub started_in : List ℕ → List ℕ → ℕ → Started
-started_in own rows result = record { node = node own rows; result = result }
+-- 01: "Whenever an answer is an enum, a definition gives this paper's number and values for each of the enum's cases."
+abbrev pub start_number : Result (Unit {0}) Refusal → ℕ
+start_number (Ok u) = 0
+start_number (Err r) = refusal_number r
 
-abbrev pub returned : ℕ → ℕ → Returned
-returned result reports = record { result = result; reports = reports }
+abbrev pub started_in : Node → Result (Unit {0}) Refusal → Started
+started_in n r = record { node = n; result = start_number r }
 
-abbrev pub answer_in : List ℕ → List ℕ → Returned → Answer
-answer_in own rows r = record { node = node own rows; result = r.result; reports = r.reports }
+-- A tick that writes so many reports.
+abbrev pub returned : ℕ → Result Returned Refusal
+returned reports = Ok (record { reports = reports; taken = Stored })
+
+abbrev pub answer_in : Node → Result Returned Refusal → Answer
+answer_in n (Ok r) = record { node = n; result = taken_number r.taken; reports = r.reports }
+answer_in n (Err r) = record { node = n; result = refusal_number r; reports = 0 }
 
 abbrev pub settings_of : Node → Settings
-settings_of n = settings_on n.own
+settings_of n = n.settings
 
 -- What the rules see of a node.
 abbrev pub state_of : Node → State
-state_of n = record {
-  choice = choice_on n.own;
-  spans = spans_on n.own;
-  stations = stations_in n.rows;
-  pacer = pacer_on n.own;
-}
+state_of n = record { choice = choice_of n.settings; spans = n.spans; stations = n.stations; pacer = n.pacer }
 
 -- The node of these settings in a state.
 abbrev pub node_of : Settings → State → Node
-node_of c s = record { own = own_of c s.spans s.pacer; rows = rows_of s.stations }
+node_of c s = record { settings = c; spans = s.spans; stations = s.stations; pacer = s.pacer }
 
 abbrev pub node_in : Node → State → Node
 node_in n s = node_of (settings_of n) s
@@ -98,6 +93,14 @@ unfolding steering_to west_request east_request
 steering s a = steering_to (west_request s) (east_request s) s.stations a
 
 -- "Attributes asked for: 0 with values, 1 behind with the type, 3 not in the table; fields not used are 0."
+pub record Shown : Type 0 where
+  pub kind : ℕ
+  pub reserved0 : ℕ
+  pub reserved1 : ℕ
+  pub weight0 : ℕ
+  pub weight1 : ℕ
+  pub reply : ℕ
+
 abbrev pub shown : Option Attributes → Shown
 shown none = record { reply = 3; kind = 0; weight0 = 0; weight1 = 0; reserved0 = 0; reserved1 = 0 }
 shown (some x) = record {
@@ -112,3 +115,8 @@ shown (some x) = record {
 unfoldable pub asked : State → ℕ → Shown
 unfolding attributes_of
 asked s a = shown (attributes_of a s.stations)
+
+-- What the program answers.
+abbrev pub shown_as : Maybe Attributes → Shown
+shown_as None = shown none
+shown_as (Some x) = shown (some x)

@@ -1,123 +1,73 @@
 // What may be asked of a node between records.
-ghost use Rattle.std.specs.Prelude.{◌≡◌, cond, length};
-ghost use Rattle.controller.specs.Kept.{Kept};
-ghost use Rattle.std.proofs.Math.Option.{some};
-ghost use Rattle.controller.specs.Node.{node, settings_of, state_of, west_request, east_request, steering, shown, asked};
+ghost use Rattle.std.specs.Prelude.{◌≡◌, length};
 
-use crate::own::{OWN_WORDS, level_in, pacer_in, span_in, ticks_in};
+use crate::node::Node;
 use blocks::Attributes;
-use stations::{Found, ROW_WORDS};
 use ways::Steering;
 
-// The replies of `attributes`.
-const WITH_VALUES: u8 = 0;
+impl Node {
+    ghost use Rattle.controller.specs.Kept.{Kept};
+    ghost use Rattle.controller.specs.Node.{state_of, west_request, east_request, steering, shown_as, asked};
 
-const BEHIND: u8 = 1;
-
-const UNKNOWN: u8 = 3;
-
-// The attributes of a station: 0 with values, 1 behind with the type, 3 not in the table; what is not used is 0.
-#[repr(C)]
-#[derive(Clone, Copy)]
-pub struct Shown {
-    pub kind: u16,
-    pub reserved0: u16,
-    pub reserved1: u16,
-    pub weight0: u8,
-    pub weight1: u8,
-    pub reply: u8,
-}
-
-// The way to the station of an address, and where the trouble on it is; any number may be asked.
-pub fn steer(own: &[u64; OWN_WORDS], rows: &[u64; ROW_WORDS], address: u64) -> Steering
-    requires { Kept (node own.now rows.now) }
-    ensures { result ≡ steering (state_of (node own.now rows.now)) address }
-{
-    let t = ticks_in(own);
-    let west = spans::request(span_in(own, 0), t);
-    let east = spans::request(span_in(own, 1), t);
-    ways::way_to(rows, west, east, address)
-}
-
-fn behind_number(behind: bool) -> u8
-    ensures { result ≡ cond behind 1 0 }
-{
-    if behind {
-        return BEHIND;
+    // The way to the station of an address, and where the trouble on it is; any number may be asked.
+    #[tactic(auto, unfolding(crate::specs::Node::steering))]
+    pub fn steer(&self, address: u64) -> Steering
+        ensures { result ≡ steering (state_of self.now) address }
+    {
+        let (west, east) = (self.west_request(), self.east_request());
+        ways::way_to(&self.table, west, east, address)
     }
-    WITH_VALUES
-}
 
-// What a station shows.
-fn shown_of(x: Attributes) -> Shown
-    ensures { result ≡ shown (some x) }
-{
-    Shown {
-        kind: x.kind,
-        reserved0: x.reserved0,
-        reserved1: x.reserved1,
-        weight0: x.weight0,
-        weight1: x.weight1,
-        reply: behind_number(x.behind),
+    // The attributes of the station of an address, none where it is not in the table; any number may be asked.
+    pub fn attributes(&self, address: u64) -> Option<Attributes>
+        ensures { shown_as result ≡ asked (state_of self.now) address }
+    {
+        let at = self.table.find_station(address)?;
+        Some(self.table.station_at(at).attributes())
     }
-}
 
-// The attributes of the station of an address; any number may be asked.
-pub fn attributes(own: &[u64; OWN_WORDS], rows: &[u64; ROW_WORDS], address: u64) -> Shown
-    requires { Kept (node own.now rows.now) }
-    ensures { result ≡ asked (state_of (node own.now rows.now)) address }
-{
-    let f = stations::find_station(rows, address);
-    match f {
-        Found::Nothing => Shown {
-            kind: 0,
-            reserved0: 0,
-            reserved1: 0,
-            weight0: 0,
-            weight1: 0,
-            reply: UNKNOWN,
-        },
-        Found::At(at) => shown_of(stations::attributes_at(rows, at)),
+    // The request on the west span; two calls and no number for a side, as README names them.
+    #[tactic(auto, unfolding(crate::specs::Node::west_request))]
+    pub fn west_request(&self) -> u8
+        ensures { result ≡ west_request (state_of self.now) }
+    {
+        self.spans.west.request(&self.settings.ticks())
     }
-}
 
-// The request on the west span.
-pub fn west_request(own: &[u64; OWN_WORDS], rows: &[u64; ROW_WORDS]) -> u8
-    requires { Kept (node own.now rows.now) }
-    ensures { result ≡ west_request (state_of (node own.now rows.now)) }
-{
-    spans::request(span_in(own, 0), ticks_in(own))
-}
+    // The request on the east span.
+    #[tactic(auto, unfolding(crate::specs::Node::east_request))]
+    pub fn east_request(&self) -> u8
+        ensures { result ≡ east_request (state_of self.now) }
+    {
+        self.spans.east.request(&self.settings.ticks())
+    }
 
-// The request on the east span.
-pub fn east_request(own: &[u64; OWN_WORDS], rows: &[u64; ROW_WORDS]) -> u8
-    requires { Kept (node own.now rows.now) }
-    ensures { result ≡ east_request (state_of (node own.now rows.now)) }
-{
-    spans::request(span_in(own, 1), ticks_in(own))
-}
+    // The level that the node was started with.
+    pub fn level(&self) -> u8
+        ensures { result ≡ self.now.settings.level }
+    {
+        self.settings.level
+    }
 
-// The level that the node was started with.
-pub fn level(own: &[u64; OWN_WORDS], rows: &[u64; ROW_WORDS]) -> u8
-    requires { Kept (node own.now rows.now) }
-    ensures { result ≡ (settings_of (node own.now rows.now)).level }
-{
-    level_in(own)
-}
+    // The own sequence: 0 at start, then that of the latest report.
+    pub fn own_sequence(&self) -> u8
+        ensures { result ≡ (state_of self.now).pacer.sequence }
+    {
+        self.pacer.sequence
+    }
 
-// The own sequence: 0 at start, then that of the latest report.
-pub fn own_sequence(own: &[u64; OWN_WORDS], rows: &[u64; ROW_WORDS]) -> u8
-    requires { Kept (node own.now rows.now) }
-    ensures { result ≡ (state_of (node own.now rows.now)).pacer.sequence }
-{
-    let p = pacer_in(own);
-    p.sequence
-}
+    // The stations in the table.
+    pub fn stations(&self) -> &[stations::Station]
+        ensures stations { result.now ≡ (state_of self.now).stations }
+        ensures kept { Kept self.now }
+    {
+        self.table.stations()
+    }
 
-// The number of stations in the table.
-pub fn station_count(own: &[u64; OWN_WORDS], rows: &[u64; ROW_WORDS]) -> usize
-    requires { Kept (node own.now rows.now) }
-    ensures { result ≡ length (state_of (node own.now rows.now)).stations }
-{
-    stations::station_count(rows)
+    // The number of stations in the table.
+    pub fn station_count(&self) -> usize
+        ensures { result ≡ length (state_of self.now).stations }
+    {
+        self.table.station_count()
+    }
 }

@@ -1,60 +1,61 @@
-// What a record does to the stations, and its result. A refusal is decided before anything is stored.
+// What an event does to the stations, and its result. A refusal is decided before anything is stored.
 ghost use Rattle.std.specs.Prelude.{◌≡◌, ◌<◌, ◌^◌, true};
 ghost use Rattle.blocks.specs.Types.{knows};
 ghost use Rattle.blocks.specs.Meaning.{meaning};
 ghost use Rattle.stations.specs.Station.{is_hop};
-ghost use Rattle.stations.specs.Table.{found};
-ghost use Rattle.stations.specs.declared.find.Found.TheVariants.{At};
-ghost use Rattle.stations.specs.Rows.{RowsKept, stations_in, left, left_by};
-ghost use Rattle.stations.specs.Stations.{aged, given};
-ghost use Rattle.controller.specs.Handling.{gives, hearing, taking, learning, judged};
+ghost use Rattle.stations.specs.Hearing.{left};
+ghost use Rattle.controller.specs.Handling.{hearing, learning, judged};
 ghost use Rattle.controller.specs.Kept.{ReadingKept};
-ghost use Rattle.controller.specs.Own.{settings_on, choice_on, ticks_on, spans_on};
+ghost use Rattle.controller.specs.Node.{choice_of};
+ghost use Rattle.controller.specs.Reading.{reading_of_event};
+ghost use Rattle.settings.specs.Ticks.{ticks_of};
 
-use crate::own::{OWN_WORDS, level_in, span_in, ticks_in};
-use crate::reading::Reading;
+use crate::reading::Event;
+use crate::sides::Spans;
 use blocks::{Attributes, Block};
-use stations::{Found, ROW_WORDS, Report};
-use wire::results;
+use settings::{Settings, Ticks};
+use stations::{Report, Table};
+use wire::{Refusal, Taken};
 
 // A report heard: steps (b) and (c), then the table.
-fn hear(rows: &mut [u64; ROW_WORDS], own: &[u64; OWN_WORDS], n: u8, p: Report) -> u8
-    requires { RowsKept rows.old × (is_hop p.hop ≡ true) }
-    ensures { left rows.new result ≡ left_by (hearing (ticks_on own.now) n p (spans_on own.now) (stations_in rows.old)) }
+#[tactic(auto, using(stations::proofs::Room::any_placed), unfolding(crate::specs::Handling::hearing))]
+fn hear(table: &mut Table, spans: &Spans, t: &Ticks, n: u8, p: Report) -> Result<Taken, Refusal>
+    requires { is_hop p.hop ≡ true }
+    ensures { left table.new result ≡ hearing t.now n p spans.now table.old }
 {
-    if p.ringlet == n {
-        if spans::down(span_in(own, n), ticks_in(own)) {
-            return results::SPAN_DOWN;
-        }
-        return stations::hear_report(rows, p);
+    if p.ringlet != n {
+        return Ok(Taken::WrongRinglet);
     }
-    results::WRONG_RINGLET
+    if spans.span(n).down(t) {
+        return Ok(Taken::SpanDown);
+    }
+    table.hear_report(p)
 }
 
-// The attributes of a block that was taken or set aside, to the station at a place.
-fn give(rows: &mut [u64; ROW_WORDS], address: u64, at: usize, x: Attributes, res: u8) -> u8
-    requires { RowsKept rows.old × (found address (stations_in rows.old) ≡ At at) }
-    ensures { left rows.new result ≡ left_by (gives res (given address x (stations_in rows.old))) }
+// Attributes heard: span down, then not in the table, then the block.
+#[tactic(auto, using(crate::proofs::Judging::unknown), unfolding(crate::specs::Handling::learning))]
+fn learn(
+    table: &mut Table,
+    spans: &Spans,
+    t: &Ticks,
+    n: u8,
+    address: u64,
+    block: &[u8],
+    level: u8,
+) -> Result<Taken, Refusal>
+    ensures { left table.new result ≡ learning t.now n address (meaning (knows level) block.now) spans.now table.old }
 {
-    stations::give_attributes(rows, at, x);
-    res
-}
-
-// A block heard of the station at a place.
-fn read_in(rows: &mut [u64; ROW_WORDS], address: u64, at: usize, block: &[u8], level: u8) -> u8
-    requires { RowsKept rows.old × (found address (stations_in rows.old) ≡ At at) }
-    ensures { left rows.new result ≡ left_by (taking address (meaning (knows level) block.now) (stations_in rows.old)) }
-{
-    let read = blocks::read_block(block, level);
-    match read {
-        Block::Malformed => results::MALFORMED,
-        Block::Aside(kind) => give(
-            rows,
-            address,
-            at,
-            Attributes::behind_with(kind),
-            results::SET_ASIDE,
-        ),
+    if spans.span(n).down(t) {
+        return Ok(Taken::SpanDown);
+    }
+    let Some(at) = table.find_station(address) else {
+        return Err(Refusal::NotInTable);
+    };
+    match blocks::read_block(block, level)? {
+        Block::Aside(kind) => {
+            table.give_attributes(at, Attributes::behind_with(kind));
+            Ok(Taken::SetAside)
+        }
         Block::Values {
             weight0,
             weight1,
@@ -69,62 +70,36 @@ fn read_in(rows: &mut [u64; ROW_WORDS], address: u64, at: usize, block: &[u8], l
                 weight1,
                 behind: false,
             };
-            give(rows, address, at, x, results::TAKEN)
+            table.give_attributes(at, x);
+            Ok(Taken::Stored)
         }
     }
 }
 
-// Attributes heard: span down, then not in the table, then the block.
-fn learn(
-    rows: &mut [u64; ROW_WORDS],
-    own: &[u64; OWN_WORDS],
-    n: u8,
-    address: u64,
-    block: &[u8],
-) -> u8
-    requires { RowsKept rows.old }
-    ensures { left rows.new result ≡ left_by (learning (ticks_on own.now) n address (meaning (choice_on own.now).known block.now) (spans_on own.now) (stations_in rows.old)) }
-{
-    if spans::down(span_in(own, n), ticks_in(own)) {
-        return results::SPAN_DOWN;
-    }
-    let f = stations::find_station(rows, address);
-    match f {
-        Found::Nothing => results::NOT_IN_TABLE,
-        Found::At(at) => read_in(rows, address, at, block, level_in(own)),
-    }
-}
-
-// A tick, which every station sees.
-pub(crate) fn forget(rows: &mut [u64; ROW_WORDS], own: &[u64; OWN_WORDS]) -> u8
-    requires { RowsKept rows.old × ((ticks_on own.now).forget < 2 ^ 16) }
-    ensures { left rows.new result ≡ left_by (gives 0 (aged (ticks_on own.now).forget (stations_in rows.old))) }
-{
-    let t = ticks_in(own);
-    stations::raise_ages(rows, t.forget as u16);
-    results::TAKEN
-}
-
-// The result, and the stations after a record's handler.
+// The result, and the stations after an event.
+#[tactic(auto, unfolding(crate::specs::Handling::judged))]
 pub(crate) fn judge(
-    rows: &mut [u64; ROW_WORDS],
-    own: &[u64; OWN_WORDS],
-    r: Reading,
+    table: &mut Table,
+    settings: &Settings,
+    spans: &Spans,
+    event: Event,
     block: &[u8],
-) -> u8
-    requires { RowsKept rows.old × ((ticks_on own.now).forget < 2 ^ 16) × ReadingKept (settings_on own.now).address r }
-    ensures { left rows.new result ≡ left_by (judged (choice_on own.now) r block.now (spans_on own.now) (stations_in rows.old)) }
+) -> Result<Taken, Refusal>
+    requires forget { (ticks_of settings.now).forget < 2 ^ 16 }
+    requires event { ReadingKept settings.now.address (reading_of_event event) }
+    ensures { left table.new result ≡ judged (choice_of settings.now) (reading_of_event event) block.now spans.now table.old }
 {
-    match r {
-        Reading::Refused(k) => k,
-        Reading::Tick => forget(rows, own),
-        Reading::Link { span: _, status: _ } => results::TAKEN,
-        Reading::Keepalive(_) => results::TAKEN,
-        Reading::Operator {
-            span: _,
-            request: _,
-        } => results::TAKEN,
-        Reading::Heard { span, report } => hear(rows, own, span, report),
-        Reading::Block { span, address } => learn(rows, own, span, address, block),
+    let t = settings.ticks();
+    match event {
+        Event::Tick => {
+            // `as`, which is proved to lose nothing: there is no `From`, and `try_from` with an `unwrap` is no plainer.
+            table.raise_ages(t.forget as u16);
+            Ok(Taken::Stored)
+        }
+        Event::Link { .. } | Event::Keepalive(_) | Event::Operator { .. } => Ok(Taken::Stored),
+        Event::Heard { span, report } => hear(table, spans, &t, span, report),
+        Event::Block { span, address } => {
+            learn(table, spans, &t, span, address, block, settings.level)
+        }
     }
 }

@@ -1,60 +1,68 @@
 -- The turns of a run, one after the other. Assumes nothing.
-use Prim.Native.Nat.{ℕ, suc, ◌+◌, ◌<◌, ◌≤◌}
+use Prim.Native.Nat.{ℕ, suc, ◌+◌, ◌≤◌}
 use mathlib.Core.Path.{◌≡◌, refl, ap, sym, ◌∙◌}
-use mathlib.Core.Bool.{Bool, true, false, cond, true≢false}
+use mathlib.Core.Bool.{true, false, cond, true≢false}
 use mathlib.Core.List.{List, [], ◌∷◌, ◌++◌, append_assoc}
-use native.Mathlib.Omega.{arith}
 use native.Mathlib.Numerals.{add-one}
+use native.Mathlib.Omega.{arith}
 use lib.ListN.{length}
+use Rattle.std.specs.Prelude.{Some, None, is_some}
+use Rattle.std.specs.ControlFlow.{break_value}
+use Rattle.std.specs.declared.ops.ControlFlow.{ControlFlow}
+use Rattle.std.specs.declared.ops.ControlFlow.TheVariants.{Continue, Break}
+use Rattle.arrayvec.specs.ArrayVec.{ArrayVec}
 use Rattle.controller.specs.Node.{Node}
-use Rattle.controller.specs.Kept.{Kept}
 use Rattle.drill.specs.Turns.{Read, turned, told, passed, lines_of, in_order}
-use Rattle.drill.specs.Promise.{Turning, Taken, WentOn, Ran}
+use Rattle.drill.specs.Promise.{Taken, WentOn, Ran}
 
--- The greatest number of 64 bits.
-abbrev most : ℕ
-most = 18446744073709551615
-
--- What holds whenever the loop's test is reached.
-pub record Passing (start n : Node) (number : ℕ) (more : Bool) : Type 0 where
+-- What holds before the record of a number.
+pub record Passing (start n : Node) (number : ℕ) : Type 0 where
   pub reads : List Read
-  pub counted : number ≡ length reads
-  pub small : number ≤ most
+  pub counted : number ≡ suc (length reads)
   pub node_is : n ≡ (passed start reads).node
-  pub more_is : more ≡ (passed start reads).more
+  pub more_is : (passed start reads).more ≡ true
   pub on : WentOn start reads
-  pub kept : Kept n
 
--- No record yet, and one record more.
-pub at_first : {n : Node} → Kept n → Passing n n 0 true
+-- No record yet.
+pub at_first : (n : Node) → Passing n n 1
 unfolding passed
-at_first k = record { reads = []; counted = refl; small = omega arith; node_is = refl; more_is = refl; on = tt; kept = k }
+at_first n = record { reads = []; counted = refl; node_is = refl; more_is = refl; on = tt }
 
-next_is : (start n : Node) (k : ℕ) (w : Read) (l : List Read) → k ≡ length l → n ≡ (passed start l).node
-    → turned (k + 1) n w ≡ passed start (w ∷ l)
+next_is : (start n : Node) (k : ℕ) (w : Read) (l : List Read) → k ≡ suc (length l) → n ≡ (passed start l).node → turned k n w ≡ passed start (w ∷ l)
 unfolding passed
-next_is start n k w l e q = rw (add-one k, e, q)
+next_is start n k w l e q = rw (e, q)
 
-pub one_more_lem : {start n : Node} {k : ℕ} {more : Bool} {t : Turning} → Passing start n k more → k < most → more ≡ true → Taken (k + 1) n t
-    → Passing start t.node (k + 1) t.more
-one_more_lem {start} {n} {k} p low h t =
-    let e = next_is start n k t.read p.reads p.counted p.node_is in
-    record {
-      reads = t.read ∷ p.reads;
-      counted = rw (add-one k, p.counted);
-      small = omega arith;
-      node_is = ap (λ x. x.node) t.is ∙ ap (λ x. x.node) e;
-      more_is = ap (λ x. x.more) t.is ∙ ap (λ x. x.more) e;
-      on = (sym p.more_is ∙ h, p.on);
-      kept = t.kept;
-    }
+module _ {start n m : Node} {k : ℕ} where
+  -- One record more.
+  pub one_more_lem : (r : ControlFlow (ArrayVec ℕ) (ArrayVec ℕ)) → Passing start n k → Taken k n m r → is_some (break_value r) ≡ false
+      → Passing start m (k + 1)
+  one_more_lem (Continue x) p t h =
+      let e = t.is ∙ next_is start n k t.read p.reads p.counted p.node_is in
+      record {
+        reads = t.read ∷ p.reads;
+        counted = rw (add-one k, p.counted);
+        node_is = ap (λ x. x.node) e;
+        more_is = sym (ap (λ x. x.more) e);
+        on = (p.more_is, p.on);
+      }
+  one_more_lem (Break x) p t h = absurd (true≢false h)
 
--- The numbers are at an end, or the drill is.
-pub out_of_numbers : {start n : Node} {k : ℕ} {more : Bool} → Passing start n k more → most ≤ k → Ran start n (record { number = k; more = more })
-out_of_numbers p h = record { reads = p.reads; left = p.node_is; counted = p.counted; is = p.more_is; on = p.on; over = λ e. omega (arith, p.small) }
+  -- The drill is at an end, or the numbers are.
+  pub at_the_end : (r : ControlFlow (ArrayVec ℕ) (ArrayVec ℕ)) → Passing start n k → Taken k n m r → is_some (break_value r) ≡ true
+      → Ran start m (Some k)
+  at_the_end (Continue x) p t h = absurd (true≢false (sym h))
+  at_the_end (Break x) p t h =
+      let e = t.is ∙ next_is start n k t.read p.reads p.counted p.node_is in
+      record {
+        reads = t.read ∷ p.reads;
+        left = ap (λ x. x.node) e;
+        counted = p.counted;
+        is = ap (λ x. x.more) e;
+        on = (p.more_is, p.on);
+      }
 
-pub at_the_end : {start n : Node} {k : ℕ} {more : Bool} → Passing start n k more → more ≡ false → Ran start n (record { number = k; more = more })
-at_the_end p h = record { reads = p.reads; left = p.node_is; counted = p.counted; is = p.more_is; on = p.on; over = λ e. absurd (true≢false (sym e ∙ h)) }
+pub out_of_numbers : {start n : Node} {k : ℕ} → Passing start n (k + 1) → 18446744073709551615 ≤ k → k ≤ 18446744073709551615 → Ran start n None
+out_of_numbers p low high = record { reads = p.reads; left = p.node_is; counted = omega (arith, p.counted); is = sym p.more_is; on = p.on }
 
 -- The lines of the steps of a run are the text of its reads.
 pub text_of_run : (n : Node) (l m : List Read) → WentOn n l

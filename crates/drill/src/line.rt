@@ -1,122 +1,117 @@
-// The lines of a drill, each made in a buffer of 147 bytes: room for seven fields of at most 20 digits, each with a byte behind it.
-ghost use Rattle.std.specs.Prelude.{[], ◌∷◌, ◌+◌, ◌<◌, ◌≤◌, length};
+// The lines of a drill. Each has room for seven fields of at most 20 digits, each with a byte behind it.
+ghost use Rattle.std.specs.Prelude.{◌≡◌, ◌+◌, ◌*◌, ◌≤◌, ◌++◌, length};
 ghost use Rattle.ways.specs.Choice.{numbers};
-ghost use Rattle.controller.specs.Kept.{Kept};
-ghost use Rattle.controller.specs.Node.{node, state_of, answer_in};
+ghost use Rattle.wire.specs.Results.{refusal_number};
+ghost use Rattle.controller.specs.Node.{state_of, answer_in};
 ghost use Rattle.drill.specs.Lines.{record_line, refused_line, way_line, question_line, settings_line};
-ghost use Rattle.drill.specs.Promise.{Put, Number, Pair, Lined};
+ghost use Rattle.drill.specs.Promise.{Number, Spaced};
 
-use controller::{OWN_WORDS, ROW_WORDS, Returned};
+use arrayvec::ArrayVec;
+use controller::{Node, Returned};
 use ways::Steering;
+use wire::Refusal;
 
-// A byte at a place.
-fn put(line: &mut [u8; 147], at: usize, b: u8) -> usize
-    requires { at < 147 }
-    ensures { Put (b ∷ []) at line.old line.new result }
-{
-    line[at] = b;
-    at + 1
-}
+pub(crate) type Line = ArrayVec<u8, 147>;
 
-fn put_word(line: &mut [u8; 147], at: usize, word: &[u8]) -> usize
-    requires { at + length word.now ≤ 147 }
-    ensures { Put word.now at line.old line.new result }
+fn put_word(line: &mut Line, word: &[u8])
+    requires { length line.old.items + length word.now ≤ 147 }
+    ensures { line.new.items ≡ line.old.items ++ word.now }
 {
-    let mut i = 0;
-    while i < word.len() {
-        line[at + i] = word[i];
-        i += 1;
-    }
-    at + i
+    line.try_extend_from_slice(word).unwrap();
 }
 
 // A number and the byte behind it.
-fn put_number(line: &mut [u8; 147], at: usize, n: u64, b: u8) -> usize
-    requires { at + 21 ≤ 147 }
-    ensures { Number n b at line.old line.new result }
+fn put_number(line: &mut Line, n: u64, b: u8)
+    requires { length line.old.items + 21 ≤ 147 }
+    ensures { Number n b line.old.items line.new.items }
 {
-    let mut text = [0u8; 20];
-    let k = io::decimal(n, &mut text);
-    let to = put_word(line, at, &text[..k]);
-    put(line, to, b)
+    let mut digits = [0; 20];
+    let count = io::decimal(n, &mut digits);
+    put_word(line, &digits[..count]);
+    line.push(b);
+}
+
+// Numbers with a space behind each.
+fn put_numbers(line: &mut Line, numbers: &[u64])
+    requires { length line.old.items + 21 * length numbers.now ≤ 147 }
+    ensures { Spaced numbers.now line.old.items line.new.items }
+{
+    for &n in numbers {
+        put_number(line, n, b' ');
+    }
 }
 
 // Refused settings: the word and the number.
-pub(crate) fn put_settings(line: &mut [u8; 147], res: u8) -> usize
-    ensures { Lined (settings_line res) line.old line.new result }
+#[tactic(auto, unfolding(crate::specs::Lines::settings_line, crate::specs::Text::line, crate::specs::Text::ascii))]
+pub(crate) fn settings(refusal: Refusal) -> Line
+    ensures { result.items ≡ settings_line (refusal_number refusal) }
 {
-    let a = put_word(line, 0, b"settings ");
-    put_number(line, a, res as u64, b'\n')
+    let mut line = Line::new();
+    put_word(&mut line, b"settings ");
+    put_number(&mut line, u64::from(u8::from(refusal)), b'\n');
+    line
 }
 
 // A number and a result, for what never comes to the controller.
-pub(crate) fn put_refused(line: &mut [u8; 147], number: u64, res: u8) -> usize
-    ensures { Lined (refused_line number res) line.old line.new result }
+#[tactic(auto, unfolding(crate::specs::Lines::refused_line, crate::specs::Text::line))]
+pub(crate) fn refused(number: u64, refusal: Refusal) -> Line
+    ensures { result.items ≡ refused_line number (refusal_number refusal) }
 {
-    let a = put_number(line, 0, number, b' ');
-    put_number(line, a, res as u64, b'\n')
+    let mut line = Line::new();
+    put_number(&mut line, number, b' ');
+    put_number(&mut line, u64::from(u8::from(refusal)), b'\n');
+    line
 }
 
 // Number, the word way, reply, and of the way chosen its hops, its worst request and the first span that has it.
-fn put_way(line: &mut [u8; 147], number: u64, way: Steering) -> usize
-    ensures { Lined (way_line number (numbers way)) line.old line.new result }
+#[tactic(auto, unfolding(crate::specs::Lines::way_line, crate::specs::Text::line, crate::specs::Text::ascii))]
+fn way(number: u64, way: Steering) -> Line
+    ensures { result.items ≡ way_line number (numbers way) }
 {
-    let reply = way.reply;
-    let at = put_number(line, 0, number, b' ');
-    let at = put_word(line, at, b"way ");
-    let at = put_number(line, at, ways::number(reply) as u64, b' ');
-    let at = put_number(line, at, way.hops as u64, b' ');
-    let at = put_number(line, at, way.worst as u64, b' ');
-    put_number(line, at, way.span as u64, b'\n')
+    let mut line = Line::new();
+    put_number(&mut line, number, b' ');
+    put_word(&mut line, b"way ");
+    let told = [
+        u64::from(u8::from(way.reply)),
+        u64::from(way.hops),
+        u64::from(way.worst),
+    ];
+    put_numbers(&mut line, &told);
+    put_number(&mut line, u64::from(way.span), b'\n');
+    line
 }
 
 // A question: the way to an address; a wrong body length or an odd first byte is 4.
-pub(crate) fn put_question(
-    line: &mut [u8; 147],
-    number: u64,
-    own: &[u64; OWN_WORDS],
-    rows: &[u64; ROW_WORDS],
-    body: &[u8],
-) -> usize
-    requires { Kept (node own.now rows.now) }
-    ensures { Lined (question_line number (state_of (node own.now rows.now)) body.now) line.old line.new result }
+#[tactic(auto, unfolding(crate::specs::Lines::question_line))]
+pub(crate) fn question(number: u64, node: &Node, body: &[u8]) -> Line
+    ensures { result.items ≡ question_line number (state_of node.now) body.now }
 {
-    if body.len() != 6 {
-        return put_refused(line, number, 4);
-    }
     let address = wire::address_at(body, 0);
-    if wire::odd_first(address) {
-        return put_refused(line, number, 4);
+    if body.len() != 6 || wire::odd_first(address) {
+        return refused(number, Refusal::Unfit);
     }
-    put_way(line, number, controller::steer(own, rows, address))
-}
-
-// West request, east request, each with a space behind it.
-fn put_requests(line: &mut [u8; 147], at: usize, west: u8, east: u8) -> usize
-    requires { at + 42 ≤ 147 }
-    ensures { Pair west east at line.old line.new result }
-{
-    let a = put_number(line, at, west as u64, b' ');
-    put_number(line, a, east as u64, b' ')
+    way(number, node.steer(address))
 }
 
 // A record: number, result, west request, east request, own sequence, stations, number of reports.
-pub(crate) fn put_record(
-    line: &mut [u8; 147],
-    number: u64,
-    own: &[u64; OWN_WORDS],
-    rows: &[u64; ROW_WORDS],
-    a: Returned,
-) -> usize
-    requires { Kept (node own.now rows.now) }
-    ensures { Lined (record_line number (answer_in own.now rows.now a)) line.old line.new result }
+#[tactic(auto, unfolding(crate::specs::Lines::record_line, crate::specs::Text::line))]
+pub(crate) fn record(number: u64, node: &Node, answer: Result<Returned, Refusal>) -> Line
+    ensures { result.items ≡ record_line number (answer_in node.now answer) }
 {
-    let west = controller::west_request(own, rows);
-    let east = controller::east_request(own, rows);
-    let at = put_number(line, 0, number, b' ');
-    let at = put_number(line, at, a.result as u64, b' ');
-    let at = put_requests(line, at, west, east);
-    let at = put_number(line, at, controller::own_sequence(own, rows) as u64, b' ');
-    let at = put_number(line, at, controller::station_count(own, rows) as u64, b' ');
-    put_number(line, at, a.reports as u64, b'\n')
+    let (result, reports) = match answer {
+        Ok(returned) => (u8::from(returned.taken), returned.reports),
+        Err(refusal) => (u8::from(refusal), 0),
+    };
+    let told = [
+        number,
+        u64::from(result),
+        u64::from(node.west_request()),
+        u64::from(node.east_request()),
+        u64::from(node.own_sequence()),
+        node.station_count() as u64,
+    ];
+    let mut line = Line::new();
+    put_numbers(&mut line, &told);
+    put_number(&mut line, u64::from(reports), b'\n');
+    line
 }

@@ -1,68 +1,57 @@
 // The drill program: settings, then records, from standard input; a line for each record and question.
 // Follows 01, section The drill program.
-// Stands on controller, ways and wire, and on io for its input and output.
+// Stands on controller, ways and wire, on arrayvec for its lines, and on io for its input and output: std's would assume more than C's read and write (errno, and lseek for its reader), and promise no more.
 #![tactic(auto)]
 
 mod input;
 mod line;
 mod turn;
 
-ghost use Rattle.controller.specs.Kept.{Kept};
-ghost use Rattle.controller.specs.Node.{node};
-ghost use Rattle.drill.specs.Promise.{turn_in, Taken, Ran};
+ghost use Rattle.drill.specs.Promise.{Taken, Ran};
 
-use controller::{OWN_WORDS, ROW_WORDS};
+use controller::Node;
+use std::ops::ControlFlow;
 use turn::Turn;
 
 // Standard output.
 const OUTPUT: i32 = 1;
 
 fn main() {
-    let mut own = [0; OWN_WORDS];
-    let mut rows = [0; ROW_WORDS];
-    let mut buf = [0u8; 1035];
+    let mut node = Node::new();
+    let mut buf = [0; 1035];
     let read = input::read_record(&mut buf);
-    let mut line = [0u8; 147];
-    let t = turn::begin(&mut own, &mut rows, read, &buf, &mut line);
-    let length = t.length;
-    io::write_all(OUTPUT, &line[..length]);
-    if t.more {
-        run(&mut own, &mut rows);
+    let turn = turn::begin(&mut node, read);
+    tell(&turn);
+    if turn.is_continue() {
+        run(&mut node);
     }
 }
 
-// How a run ended: the number of the last record that was looked for, and whether the drill was to go on.
-#[derive(Clone, Copy)]
-pub struct Ended {
-    pub number: u64,
-    pub more: bool,
+// The line of a step, all of it.
+fn tell(turn: &Turn) {
+    let (ControlFlow::Continue(line) | ControlFlow::Break(line)) = turn;
+    io::write_all(OUTPUT, line.as_slice());
 }
 
-// One record after the other, numbered from 1.
-fn run(own: &mut [u64; OWN_WORDS], rows: &mut [u64; ROW_WORDS]) -> Ended
-    requires { Kept (node own.old rows.old) }
-    ensures { Ran (node own.old rows.old) (node own.new rows.new) result }
+// One record after the other, numbered from 1; the number of the one that ended the drill.
+fn run(node: &mut Node) -> Option<u64>
+    ensures { Ran node.old node.new result }
 {
-    let mut number: u64 = 0;
-    let mut more = true;
-    while number < u64::MAX && more {
-        number += 1;
-        let t = next(own, rows, number);
-        more = t.more;
+    for number in 1..=u64::MAX {
+        if next(node, number).is_break() {
+            return Some(number);
+        }
     }
-    Ended { number, more }
+    None
 }
 
 // The record of a number: read, taken, told.
-fn next(own: &mut [u64; OWN_WORDS], rows: &mut [u64; ROW_WORDS], number: u64) -> Turn
-    requires { Kept (node own.old rows.old) }
-    ensures { Taken number (node own.old rows.old) (turn_in own.new rows.new result) }
+fn next(node: &mut Node, number: u64) -> Turn
+    ensures { Taken number node.old node.new result }
 {
-    let mut buf = [0u8; 1035];
+    let mut buf = [0; 1035];
     let read = input::read_record(&mut buf);
-    let mut line = [0u8; 147];
-    let t = turn::take_turn(own, rows, number, read, &buf, &mut line);
-    let length = t.length;
-    io::write_all(OUTPUT, &line[..length]);
-    t
+    let turn = turn::take_turn(node, number, read);
+    tell(&turn);
+    turn
 }

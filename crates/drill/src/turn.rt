@@ -1,97 +1,53 @@
 // The steps of the drill, apart from reading and writing.
-ghost use Rattle.std.specs.Prelude.{◌≡◌, true, false};
-ghost use Rattle.controller.specs.Kept.{Kept};
-ghost use Rattle.controller.specs.Node.{node};
-ghost use Rattle.drill.specs.Turns.{stepped, turned, begun};
-ghost use Rattle.drill.specs.Promise.{Within, read_as, turn_in, Turned, StartTold};
+ghost use Rattle.std.specs.Prelude.{◌≡◌};
+ghost use Rattle.drill.specs.Turns.{goes_on, stepped, turned, begun};
+ghost use Rattle.drill.specs.Promise.{read_as, step_in};
 
-use crate::input::Input;
+use crate::input::Cut;
 use crate::line;
-use controller::{OWN_WORDS, ROW_WORDS};
+use crate::line::Line;
+use controller::Node;
+use std::ops::ControlFlow;
+use wire::Refusal;
 
-// The length of the line that a step gives, and whether the drill goes on.
-#[derive(Clone, Copy)]
-pub struct Turn {
-    pub length: usize,
-    pub more: bool,
-}
+// The kind of the drill's own question.
+const QUESTION: u16 = 40;
 
-fn goes_on(length: usize) -> Turn
-    ensures { result ≡ record { length = length; more = true } }
-{
-    let more = true;
-    Turn { length, more }
-}
-
-fn ends(length: usize) -> Turn
-    ensures { result ≡ record { length = length; more = false } }
-{
-    let more = false;
-    Turn { length, more }
-}
+// The line of a step, and whether the drill goes on.
+pub(crate) type Turn = ControlFlow<Line, Line>;
 
 // One whole record: kind 40 is the drill's own question, any other is the controller's.
-fn step(
-    own: &mut [u64; OWN_WORDS],
-    rows: &mut [u64; ROW_WORDS],
-    number: u64,
-    bytes: &[u8],
-    line: &mut [u8; 147],
-) -> Turn
-    requires { Kept (node own.old rows.old) }
-    ensures { Turned (stepped number (node own.old rows.old) bytes.now) line.old line.new (turn_in own.new rows.new result) }
+#[tactic(auto, unfolding(crate::specs::Turns::stepped))]
+fn step(node: &mut Node, number: u64, bytes: &[u8]) -> Line
+    ensures { goes_on node.new result.items ≡ stepped number node.old bytes.now }
 {
-    if wire::word_at(bytes, 2) == 40 {
-        return goes_on(line::put_question(line, number, own, rows, wire::body(bytes)));
+    if wire::word_at(bytes, 2) == QUESTION {
+        return line::question(number, node, wire::body(bytes));
     }
-    let mut out = [0u8; 7000];
-    let a = controller::take_record(own, rows, bytes, &mut out);
-    goes_on(line::put_record(line, number, own, rows, a))
+    let mut out = [0; 7000];
+    let answer = node.take_record(bytes, &mut out);
+    line::record(number, node, answer)
 }
 
 // What was read at a number: a cut record and the end of the input end the drill.
-pub(crate) fn take_turn(
-    own: &mut [u64; OWN_WORDS],
-    rows: &mut [u64; ROW_WORDS],
-    number: u64,
-    read: Input,
-    buf: &[u8],
-    line: &mut [u8; 147],
-) -> Turn
-    requires { Kept (node own.old rows.old) × Within read buf.now }
-    ensures { Turned (turned number (node own.old rows.old) (read_as read buf.now)) line.old line.new (turn_in own.new rows.new result) }
+#[tactic(auto, unfolding(crate::specs::Turns::turned))]
+pub(crate) fn take_turn(node: &mut Node, number: u64, read: Result<Option<&[u8]>, Cut>) -> Turn
+    ensures { step_in node.new result ≡ turned number node.old (read_as read.entry) }
 {
     match read {
-        Input::Nothing => ends(0),
-        Input::Cut => ends(line::put_refused(line, number, 2)),
-        Input::Whole(end) => step(own, rows, number, &buf[..end], line),
+        Ok(None) => ControlFlow::Break(Line::new()),
+        Err(Cut) => ControlFlow::Break(line::refused(number, Refusal::Broken)),
+        Ok(Some(bytes)) => ControlFlow::Continue(step(node, number, bytes)),
     }
-}
-
-// A start that was tried: taken, it gives no line; refused, the drill ends.
-fn tell_start(res: u8, line: &mut [u8; 147]) -> Turn
-    ensures { StartTold res line.old line.new result }
-{
-    if res == 0 {
-        return goes_on(0);
-    }
-    ends(line::put_settings(line, res))
 }
 
 // What was read as settings; where there is no whole record, a start of no bytes, which is refused with 2.
-pub(crate) fn begin(
-    own: &mut [u64; OWN_WORDS],
-    rows: &mut [u64; ROW_WORDS],
-    read: Input,
-    buf: &[u8],
-    line: &mut [u8; 147],
-) -> Turn
-    requires { Within read buf.now }
-    ensures { Turned (begun (read_as read buf.now)) line.old line.new (turn_in own.new rows.new result) }
+pub(crate) fn begin(node: &mut Node, read: Result<Option<&[u8]>, Cut>) -> Turn
+    ensures { step_in node.new result ≡ begun (read_as read.entry) }
 {
-    match read {
-        Input::Nothing => tell_start(controller::start(&buf[..0], own, rows), line),
-        Input::Cut => tell_start(controller::start(&buf[..0], own, rows), line),
-        Input::Whole(end) => tell_start(controller::start(&buf[..end], own, rows), line),
+    let settings = read.unwrap_or(None).unwrap_or(&[]);
+    match node.start(settings) {
+        Ok(()) => ControlFlow::Continue(Line::new()),
+        Err(refusal) => ControlFlow::Break(line::settings(refusal)),
     }
 }

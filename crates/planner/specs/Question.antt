@@ -1,20 +1,14 @@
 -- What the program makes of what it reads. No rule stands here.
-use Rattle.std.specs.Prelude.{ℕ, ◌+◌, ◌*◌, ◌≤◌, cond, List, [], length, take, eqb}
+use Rattle.std.specs.Prelude.{ℕ, ◌+◌, ◌*◌, cond, List, [], length, eqb, Option, Some, None, Result, Ok, Err}
+use Rattle.std.specs.Borrow.{Bor}
 use Rattle.wire.specs.Fields.{word_at}
-use Rattle.planner.specs.declared.input.Input.{Input}
-use Rattle.planner.specs.declared.input.Input.TheVariants.{Nothing, Cut, Whole}
-
--- A whole record lies within its buffer.
-abbrev pub Within : Input → List ℕ → Type 0
-Within Nothing buf = Unit {0}
-Within Cut buf = Unit {0}
-Within (Whole end) buf = end ≤ length buf
+use Rattle.planner.specs.declared.input.Cut.{Cut}
 
 -- The settings that start is handed.
-abbrev pub settings_read : Input → List ℕ → List ℕ
-settings_read Nothing buf = []
-settings_read Cut buf = []
-settings_read (Whole end) buf = take end buf
+abbrev pub settings_read : Result (Option (Bor (List ℕ))) Cut → List ℕ
+settings_read (Ok None) = []
+settings_read (Err c) = []
+settings_read (Ok (Some b)) = b.now
 
 -- The link rate of a question: four bytes of a body of eight, the lowest first. A body of another length has none in range.
 unfoldable pub rate_in : List ℕ → ℕ

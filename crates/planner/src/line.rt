@@ -1,58 +1,42 @@
 // The lines of the program.
-ghost use Rattle.std.specs.Prelude.{◌≡◌, cond, nat_abs};
-
-use bandwidth::Free;
+use bandwidth::{Free, Unanswered};
+use wire::Refusal;
 
 // Standard output.
 const OUTPUT: i32 = 1;
 
-// A number and a space behind it.
-fn print_field(n: u64) {
+// A number and what stands behind it.
+fn print_number(n: u64, behind: &[u8]) {
     io::print_decimal(OUTPUT, n);
-    io::write_all(OUTPUT, b" ");
-}
-
-fn print_last(n: u64) {
-    io::print_decimal(OUTPUT, n);
-    io::write_all(OUTPUT, b"\n");
-}
-
-// A number without its sign.
-fn magnitude(x: i32) -> u64
-    ensures { result ≡ nat_abs x }
-{
-    let wide = x as i64;
-    if wide < 0 {
-        return (0 - wide) as u64;
-    }
-    wide as u64
+    io::write_all(OUTPUT, behind);
 }
 
 fn print_signed(x: i32) {
     if x < 0 {
         io::write_all(OUTPUT, b"-");
     }
-    print_field(magnitude(x));
-}
-
-fn defect(excess: bool) -> u64
-    ensures { result ≡ cond excess 1 0 }
-{
-    if excess {
-        return 1;
-    }
-    0
+    print_number(u64::from(x.unsigned_abs()), b" ");
 }
 
 // Result, address, what is left of each ringlet, 1 if there is the defect else 0.
-pub(crate) fn print_free(x: Free) {
-    let ringlet0 = x.ringlet0;
-    let ringlet1 = x.ringlet1;
-    print_field(x.result as u64);
-    print_field(x.address);
-    print_signed(ringlet0);
-    print_signed(ringlet1);
-    print_last(defect(x.excess));
+pub(crate) fn print_answer(answer: Result<Free, Unanswered>) {
+    match answer {
+        Ok(free) => {
+            io::write_all(OUTPUT, b"0 0 ");
+            print_signed(free.ringlet0);
+            print_signed(free.ringlet1);
+            print_number(u64::from(free.is_excess()), b"\n");
+        }
+        Err(unanswered) => {
+            print_number(u64::from(u8::from(unanswered)), b" ");
+            let address = match unanswered {
+                Unanswered::Behind(address) => address,
+                Unanswered::RateTooHigh | Unanswered::LevelTooLow => 0,
+            };
+            print_number(address, b" ");
+            io::write_all(OUTPUT, b"0 0 0\n");
+        }
+    }
 }
 
 // A record that was cut or had a wrong length: 2.
@@ -61,7 +45,7 @@ pub(crate) fn print_cut() {
 }
 
 // Refused settings: the word and the number.
-pub(crate) fn print_settings(res: u8) {
+pub(crate) fn print_settings(refusal: Refusal) {
     io::write_all(OUTPUT, b"settings ");
-    print_last(res as u64);
+    print_number(u64::from(u8::from(refusal)), b"\n");
 }

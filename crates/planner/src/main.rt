@@ -1,48 +1,37 @@
 // The planner's program: settings, then records, from standard input; a line for each question of free bandwidth.
 // Follows 02, Item 1. It is thin, so that the numbers can be compared from outside; what it prints is tested.
-// Stands on bandwidth, controller and wire, and on io for its input and output.
+// Stands on bandwidth, controller and wire, and on io for its input and output: std's would assume more than C's read and write (errno, and lseek for its reader), and promise no more.
 #![tactic(auto)]
 
 mod input;
 mod line;
 mod turn;
 
-ghost use Rattle.controller.specs.Kept.{Kept};
-ghost use Rattle.controller.specs.Node.{node};
-
-use controller::{OWN_WORDS, ROW_WORDS};
+use controller::Node;
+use std::ops::ControlFlow;
 
 fn main() {
-    let mut own = [0; OWN_WORDS];
-    let mut rows = [0; ROW_WORDS];
-    let mut buf = [0u8; 1035];
+    let mut node = Node::new();
+    let mut buf = [0; 1035];
     let read = input::read_record(&mut buf);
-    let result = turn::begin(&mut own, &mut rows, read, &buf);
-    if result == 0 {
-        run(&mut own, &mut rows);
-    } else {
-        line::print_settings(result);
+    match turn::begin(&mut node, read) {
+        Ok(()) => run(&mut node),
+        Err(refusal) => line::print_settings(refusal),
     }
 }
 
-// One record after the other.
-fn run(own: &mut [u64; OWN_WORDS], rows: &mut [u64; ROW_WORDS])
-    requires { Kept (node own.old rows.old) }
-{
-    let mut left = u64::MAX;
-    let mut more = true;
-    while 0 < left && more {
-        left -= 1;
-        more = next(own, rows);
+// One record after the other, as many as 64 bits count: a loop without a bound would have no proof that it ends.
+fn run(node: &mut Node) {
+    for _ in 0..u64::MAX {
+        if next(node).is_break() {
+            return;
+        }
     }
 }
 
 // A record read, and taken or answered; whether there may be another.
-fn next(own: &mut [u64; OWN_WORDS], rows: &mut [u64; ROW_WORDS]) -> bool
-    requires { Kept (node own.old rows.old) }
-    ensures { Kept (node own.new rows.new) }
-{
-    let mut buf = [0u8; 1035];
+fn next(node: &mut Node) -> ControlFlow<()> {
+    let mut buf = [0; 1035];
     let read = input::read_record(&mut buf);
-    turn::take_turn(own, rows, read, &buf)
+    turn::take_turn(node, read)
 }

@@ -1,4 +1,5 @@
 -- Each contract leaves one answer, and one content of lent memory.
+pub mod Laws
 pub mod Wire
 pub mod Settings
 pub mod Spans

@@ -6,7 +6,7 @@ use Rattle.stations.specs.Station.{with_hops}
 use Rattle.stations.specs.Table.{Each}
 use Rattle.controller.specs.State.{State}
 use Rattle.controller.specs.Node.{asked}
-use Rattle.bandwidth.specs.declared.free.Free.{Free}
+use Rattle.bandwidth.specs.Free.{Free}
 use Rattle.bandwidth.specs.Free.{free_bandwidth}
 
 -- A number, and when it applies to a question with this link rate, in a state.

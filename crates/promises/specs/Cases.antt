@@ -5,9 +5,7 @@ use Rattle.wire.specs.Head.{broken, head_of}
 use Rattle.settings.specs.Ticks.{ticks_of}
 use Rattle.settings.specs.Ranges.{in_range}
 use Rattle.settings.specs.Reading.{fields_of, full_in, short_in, settings_in}
-use Rattle.stations.specs.Table.{blank, table_of}
-use Rattle.stations.specs.Rows.{image, table_in}
-use Rattle.controller.specs.Own.{own_of}
+use Rattle.stations.specs.Table.{blank}
 use Rattle.controller.specs.State.{State}
 use Rattle.controller.specs.Record.{outcomes}
 use Rattle.controller.specs.Node.{Node, state_of, answer_of, started_with}
@@ -41,7 +39,7 @@ unfolding started_with settings_in head_of broken full_in fields_of in_range add
 fresh = (started_with (settings 2 0)).node
 
 unfoldable pub next : Node → List ℕ → Node
-unfolding outcomes table_of image table_in own_of blank ticks_of
+unfolding outcomes blank ticks_of
 next n b = (answer_of n (outcomes (state_of n) b 7)).node
 
 unfoldable pub joined : Node

@@ -27,21 +27,16 @@ Ensures T =
     (κs : Lfts T.signature.lifetimes) → Args T.signature κs → Unit {0} → Res T.signature κs → AtExit T κs →
     (w : World) → SProp w.𝓤
 
--- The requires R asks Q and nothing else.
-abbrev pub Asks : (T : Ended) → Requires T → Asking T → Type 2
-Asks T R Q =
-    (w : World) (κs : Lfts T.signature.lifetimes) (a : Args T.signature κs) →
-    R κs a tt w ≡ fact w.𝓤 (Q κs a)
-
 -- The ensures E says P and nothing else.
 abbrev pub Says : (T : Ended) → Ensures T → Promise T → Type 2
 Says T E P =
     (w : World) (κs : Lfts T.signature.lifetimes) (a : Args T.signature κs) (x : Res T.signature κs) (e : AtExit T κs) →
     E κs a tt x e w ≡ fact w.𝓤 (P κs a x e)
 
--- The requires R asks Q, and Q is also the plain type that is read from it.
-abbrev pub IsAsked : (T : Ended) → Requires T → Asking T → Asking T → Type 2
-IsAsked T R pre Q = Asks T R Q × (◌≡◌ {A = Asking T} pre Q)
+-- The requires R asks nothing, and so says the plain type that is read from it.
+abbrev pub AsksNothing : (T : Ended) → Requires T → Asking T → Type 2
+AsksNothing T R pre =
+    ((w : World) (κs : Lfts T.signature.lifetimes) (a : Args T.signature κs) → R κs a tt w ≡ emp w.𝓤) × (◌≡◌ {A = Asking T} pre (λ κs a. Unit {0}))
 
 -- The ensures E says P, and P is also the plain type that is read from it.
 abbrev pub IsPromised : (T : Ended) → Ensures T → Promise T → Promise T → Type 2
@@ -61,10 +56,6 @@ abbrev pub MeetsContract : (T : Ended) → Callee → Code → Requires T → Pr
 MeetsContract T name code R P =
     (w : World) → Wired w.𝓡.env code → Meets w.𝓛 T.signature (w.𝓡.run (w.𝓡.env name))
     (closing w.𝓛 T (clauses_of T R P w))
-
--- .. a call with arguments of which Q holds, and nothing else is asked.
-abbrev pub RoutineMeets : (T : Ended) → Callee → Code → Asking T → Promise T → Type 2
-RoutineMeets T name code Q P = MeetsContract T name code (λ κs a g w. fact w.𝓤 (Q κs a)) P
 
 -- .. a call with any arguments.
 abbrev pub RoutineAlwaysMeets : (T : Ended) → Callee → Code → Promise T → Type 2

@@ -6,7 +6,7 @@ use Rattle.stations.specs.Stations.{sequence_of}
 use Rattle.ways.specs.Choice.{number, numbers, hop_of}
 use Rattle.controller.specs.State.{State}
 use Rattle.controller.specs.Record.{outcomes}
-use Rattle.controller.specs.declared.ask.Shown.{Shown}
+use Rattle.controller.specs.Node.{Shown}
 use Rattle.controller.specs.Node.{west_request, steered, steering, asked}
 use Rattle.promises.specs.History.{start_of}
 

@@ -3,8 +3,8 @@ use Rattle.std.specs.Prelude.{ℕ, suc, ◌<◌, ◌≤◌, ◌≡◌, Bool, fal
 use Rattle.spans.specs.Requests.{down}
 use Rattle.stations.specs.declared.station.Station.{Station}
 use Rattle.stations.specs.Table.{Each}
-use Rattle.controller.specs.declared.reading.Reading.{Reading}
-use Rattle.controller.specs.declared.reading.Reading.TheVariants.{Refused, Tick, Link, Keepalive, Operator, Heard, Block}
+use Rattle.controller.specs.Reading.{Reading}
+use Rattle.controller.specs.Reading.{Refused, Tick, Link, Keepalive, Operator, Heard, Block}
 use Rattle.controller.specs.Reading.{reading}
 use Rattle.controller.specs.State.{State}
 use Rattle.controller.specs.Closing.{is_tick}

@@ -2,8 +2,8 @@
 use Rattle.std.specs.Prelude.{ℕ, ◌<◌, ◌≤◌, ◌≡◌, Bool, false, cond, ◌&&◌, List, [], ◌∷◌, ◌++◌, eqb, leb}
 use Rattle.settings.specs.Kept.{TicksKept}
 use Rattle.spans.specs.declared.span.Span.{Span}
-use Rattle.controller.specs.declared.reading.Reading.{Reading}
-use Rattle.controller.specs.declared.reading.Reading.TheVariants.{Refused, Tick, Link, Keepalive, Operator, Heard, Block}
+use Rattle.controller.specs.Reading.{Reading}
+use Rattle.controller.specs.Reading.{Refused, Tick, Link, Keepalive, Operator, Heard, Block}
 use Rattle.controller.specs.Reading.{reading}
 use Rattle.controller.specs.State.{Choice, State, started}
 use Rattle.promises.specs.History.{Call, AllBytes}

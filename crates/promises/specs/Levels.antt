@@ -12,11 +12,11 @@ use Rattle.stations.specs.declared.station.Station.{Station}
 use Rattle.stations.specs.Station.{with_attributes}
 use Rattle.stations.specs.Stations.{present}
 use Rattle.ways.specs.Choice.{numbers}
-use Rattle.controller.specs.declared.reading.Reading.{Reading}
-use Rattle.controller.specs.declared.reading.Reading.TheVariants.{Refused, Tick, Link, Keepalive, Operator, Heard, Block}
+use Rattle.controller.specs.Reading.{Reading}
+use Rattle.controller.specs.Reading.{Refused, Tick, Link, Keepalive, Operator, Heard, Block}
 use Rattle.controller.specs.Reading.{block_of, reading}
 use Rattle.controller.specs.State.{Choice, State}
-use Rattle.controller.specs.declared.ask.Shown.{Shown}
+use Rattle.controller.specs.Node.{Shown}
 use Rattle.controller.specs.Node.{reports_in, west_request, east_request, steering, shown, asked}
 use Rattle.controller.specs.Record.{Outcome}
 use Rattle.promises.specs.History.{Call, after, answered, Made}

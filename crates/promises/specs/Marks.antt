@@ -2,9 +2,10 @@
 use Rattle.std.specs.Prelude.{ℕ, ◌≡◌, Bool, false, not, cond, List, eqb}
 use Rattle.spans.specs.Records.{marked}
 use Rattle.stations.specs.declared.station.Report.{Report}
-use Rattle.controller.specs.declared.reading.Reading.{Reading}
-use Rattle.controller.specs.declared.reading.Reading.TheVariants.{Refused, Tick, Link, Keepalive, Operator, Heard, Block}
-use Rattle.controller.specs.State.{Spans, State, span_of, with_span}
+use Rattle.controller.specs.Reading.{Reading}
+use Rattle.controller.specs.Reading.{Refused, Tick, Link, Keepalive, Operator, Heard, Block}
+use Rattle.controller.specs.State.{State, span_of, with_span}
+use Rattle.controller.specs.declared.sides.Spans.{Spans}
 use Rattle.controller.specs.Handling.{acted, gives, judged}
 use Rattle.controller.specs.Record.{closed, outcome_of}
 

@@ -5,7 +5,7 @@ use Rattle.stations.specs.declared.station.Station.{Station}
 use Rattle.stations.specs.declared.station.Report.{Report}
 use Rattle.stations.specs.Station.{farthest, hop}
 use Rattle.stations.specs.Stations.{sequence_of}
-use Rattle.controller.specs.declared.reading.Reading.TheVariants.{Heard}
+use Rattle.controller.specs.Reading.{Heard}
 use Rattle.controller.specs.Reading.{reading}
 use Rattle.controller.specs.State.{State}
 use Rattle.promises.specs.History.{Call}

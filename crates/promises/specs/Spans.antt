@@ -7,10 +7,11 @@ use Rattle.spans.specs.declared.span.Span.{Span}
 use Rattle.spans.specs.Codes.{none}
 use Rattle.spans.specs.Records.{asked}
 use Rattle.spans.specs.Requests.{automatic, request}
-use Rattle.controller.specs.declared.reading.Reading.{Reading}
-use Rattle.controller.specs.declared.reading.Reading.TheVariants.{Refused, Tick, Link, Keepalive, Operator, Heard, Block}
+use Rattle.controller.specs.Reading.{Reading}
+use Rattle.controller.specs.Reading.{Refused, Tick, Link, Keepalive, Operator, Heard, Block}
 use Rattle.controller.specs.Reading.{reading}
-use Rattle.controller.specs.State.{Spans, State, span_of, with_span}
+use Rattle.controller.specs.State.{State, span_of, with_span}
+use Rattle.controller.specs.declared.sides.Spans.{Spans}
 use Rattle.controller.specs.Closing.{is_tick, swept}
 use Rattle.controller.specs.Node.{Started, state_of}
 use Rattle.promises.specs.History.{Call, after, Made, node_after}

@@ -8,8 +8,8 @@ use Rattle.stations.specs.Hearing.{distance}
 use Rattle.ways.specs.Walk.{Ends, near, far}
 use Rattle.ways.specs.Choice.{hop_of}
 use Rattle.ways.specs.declared.choice.Steering.{Steering}
-use Rattle.controller.specs.declared.reading.Reading.{Reading}
-use Rattle.controller.specs.declared.reading.Reading.TheVariants.{Refused, Tick, Link, Keepalive, Operator, Heard, Block}
+use Rattle.controller.specs.Reading.{Reading}
+use Rattle.controller.specs.Reading.{Refused, Tick, Link, Keepalive, Operator, Heard, Block}
 use Rattle.controller.specs.Reading.{reading}
 use Rattle.controller.specs.State.{State}
 use Rattle.promises.specs.History.{Call, after, answered}

@@ -1,7 +1,7 @@
 -- The record in which a card hands over the block of a station. 01, Records.
 use Rattle.std.specs.Prelude.{ℕ, ◌+◌, ◌/◌, ◌%◌, ◌^◌, List, [], ◌∷◌, ◌++◌, length}
 use Rattle.controller.specs.State.{State}
-use Rattle.controller.specs.declared.ask.Shown.{Shown}
+use Rattle.controller.specs.Node.{Shown}
 use Rattle.promises.specs.History.{after, start_of}
 use Rattle.promises.specs.Drilled.{calls_for}
 use Rattle.promises.specs.Examples.{report, settings}

@@ -1,4 +1,5 @@
 // The numbers of statuses and requests.
+// They are no enums, since narrower types would ask more of callers: `Span::link` takes any status and `Span::operate` any request (`linked`, `asked`), a `Span` holds any, and `SpanKept` is where those of 01 are asked for.
 
 pub const GOOD: u8 = 0;
 

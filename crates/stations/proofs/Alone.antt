@@ -1,13 +1,15 @@
 -- Where hops stand apart, step (e) of a report touches one station at most: who is spared, and what becomes of the list. Assumes nothing.
-use Rattle.std.proofs.Common.{◌≡◌, ℕ, zero, suc, ◌+◌, ◌<◌, ◌≤◌, Bool, true, false, cond, eqb, ltb, List, [], ◌∷◌, length, get_or, set, sym, refl, ap, ◌∙◌, arith, length-set, get_or-set_other, get_or-set_same, ltb-false, ltb-true, ne_eqb, eqb-true}
+use Rattle.std.proofs.Common.{◌≡◌, ℕ, zero, suc, ◌+◌, ◌<◌, ◌≤◌, Bool, true, false, cond, not, eqb, ltb, List, [], ◌∷◌, length, get_or, set, sym, refl, ap, ◌∙◌, arith, length-set, get_or-set_other, get_or-set_same, ltb-false, ltb-true, ne_eqb, eqb-true}
 use borrow.Author.Tests.{eqb-false}
-use Rattle.stations.specs.Station.{Station, Report, hop, with_hop}
+use Rattle.std.proofs.lemmas.List.Quantifiers.{position-Some}
+use Rattle.stations.specs.Station.{Station, Report, hop, placed_somewhere, with_hop}
 use Rattle.stations.specs.Stations.{sifted, unpurged, other_at, undisplaced, losing, displaced}
-use Rattle.stations.specs.Kept.{Apart}
-use Rattle.stations.specs.Steps.{rank_of, removed_at, Spared, Sole}
-use Rattle.stations.specs.Table.{Each, blank}
+use Rattle.std.specs.Prelude.{Option, Some, None}
+use Rattle.std.specs.List.{remove, position, position_or_len}
+use Rattle.stations.specs.Steps.{at_hop, Spared, Sole, Alone}
+use Rattle.stations.specs.Table.{Each, Apart, blank}
 use Rattle.stations.proofs.Ranks.{each_at}
-use Rattle.stations.proofs.Sifting.{sifted_same, displaced-length, losing-address}
+use Rattle.stations.proofs.Sifting.{sifted_same}
 use Rattle.stations.proofs.Renewing.{own_not_other}
 
 -- Who is spared: no other at the report's hop.
@@ -20,13 +22,6 @@ spared_away p s away = spared_own p s (rw (ne_eqb (hop p.ringlet s) p.hop away))
 -- The stations below a place are spared.
 abbrev pub Below : Report → List Station → ℕ → Type 0
 Below p l i = (j : ℕ) → j < i → Spared p (get_or l j blank)
-
-pub below_next : (p : Report) (l : List Station) (i : ℕ) → Below p l i → Spared p (get_or l i blank) → Below p l (i + 1)
-below_next p l i below here j h = go (eqb j i) refl
-  where
-    go : (b : Bool) → eqb j i ≡ b → Spared p (get_or l j blank)
-    go true z = let same : j ≡ i = eqb-true j i z in rw same here
-    go false z = below j (omega (arith, eqb-false j i z))
 
 apart_at : (r : ℕ) (l : List Station) (i j : ℕ) → Apart r l → i < j → j < length l → hop r (get_or l j blank) ≡ hop r (get_or l i blank)
     → hop r (get_or l i blank) ≡ 0
@@ -96,7 +91,7 @@ module _ (p : Report) where
       (ap (λ (m : List Station). s ∷ m) (sole_stays o l (λ i q n. sole (suc i) (omega arith) (λ e. n (omega arith))) (omega arith) stays))
 
   -- .. or one who leaves.
-  pub sole_leaves : (o : ℕ) (l : List Station) → Sole p o l → o < length l → undisplaced p (get_or l o blank) ≡ false → removed_at o l ≡ displaced p l
+  pub sole_leaves : (o : ℕ) (l : List Station) → Sole p o l → o < length l → undisplaced p (get_or l o blank) ≡ false → remove l o ≡ displaced p l
   unfolding displaced sifted
   sole_leaves o [] sole h leaves = absurd (omega arith)
   sole_leaves zero (s ∷ l) sole h leaves = rw leaves (sym (displaced_spared l (λ i q. sole (suc i) (omega arith) (λ e. omega arith))))
@@ -105,18 +100,67 @@ module _ (p : Report) where
       rw (still, same)
       (ap (λ (m : List Station). s ∷ m) (sole_leaves o l (λ i q n. sole (suc i) (omega arith) (λ e. n (omega arith))) (omega arith) leaves))
 
-  -- Where nobody leaves, the place of an address stays.
-  pub rank_same : (a : ℕ) (l : List Station) → length (displaced p l) ≡ length l → rank_of a (displaced p l) ≡ rank_of a l
-  unfolding displaced sifted rank_of
-  rank_same a [] h = refl
-  rank_same a (s ∷ l) h = go (undisplaced p s) h (rank_same a l) (displaced-length p l)
-    where
-      go : (b : Bool) → length (cond b (losing p s ∷ displaced p l) (displaced p l)) ≡ suc (length l)
-          → (length (displaced p l) ≡ length l → rank_of a (displaced p l) ≡ rank_of a l) → length (displaced p l) ≤ length l
-          → rank_of a (cond b (losing p s ∷ displaced p l) (displaced p l)) ≡ cond (ltb s.address a) (suc (rank_of a l)) 0
-      go true q ih low = rw (losing-address p s) (ap (λ (m : ℕ). cond (ltb s.address a) (suc m) 0) (ih (omega arith)))
-      go false q ih low = absurd (omega arith)
-
 -- An other stays as a purge of the ringlet would have it.
 pub other_stays : (p : Report) (s : Station) → other_at p s ≡ true → (undisplaced p s ≡ unpurged p.ringlet s) × (losing p s ≡ with_hop p.ringlet 0 s)
 other_stays p s e = (rw e, rw e)
+
+before_first : (test : Station → Bool) (l : List Station) (j : ℕ) → j < position_or_len test l → test (get_or l j blank) ≡ false
+before_first test [] j h = absurd (omega arith)
+before_first test (s ∷ l) zero h = go (test s) refl h
+  where
+    go : (b : Bool) → test s ≡ b → 0 < cond (not b) (1 + position_or_len test l) 0 → test s ≡ false
+    go true e q = absurd (omega arith)
+    go false e q = e
+before_first test (s ∷ l) (suc j) h = go (test s) h (before_first test l j)
+  where
+    go : (b : Bool) → suc j < cond (not b) (1 + position_or_len test l) 0 → (j < position_or_len test l → test (get_or l j blank) ≡ false)
+        → test (get_or l j blank) ≡ false
+    go true q ih = absurd (omega arith)
+    go false q ih = ih (omega arith)
+
+-- The first station at the report's hop is the only one there: who else stands in the table is spared.
+module _ (p : Report) (some : p.hop ≡ 0 → ⊥) (l : List Station) (apart : Apart p.ringlet l) where
+  away : (i : ℕ) → at_hop p (get_or l i blank) ≡ false → Spared p (get_or l i blank)
+  away i h = spared_away p (get_or l i blank) (eqb-false (hop p.ringlet (get_or l i blank)) p.hop h)
+
+  pub alone : (o : Option ℕ) → o ≡ position (at_hop p) l → Alone p o l
+  alone (Some i) e =
+      let (inside, here, before) = position-Some (at_hop p) l i blank (sym e) in
+      (inside, sole_here p l i apart some (λ j h. away j (before j h)) (eqb-true (hop p.ringlet (get_or l i blank)) p.hop here))
+  alone None e = sole_past p l (length l) (omega arith) (λ j h. away j (position-none j h))
+    where
+      ends : (n m : ℕ) → None ≡ cond {A = Option ℕ} (ltb n m) (Some n) None → m ≤ n
+      ends n m h = go (ltb n m) refl h
+        where
+          go : (b : Bool) → ltb n m ≡ b → None ≡ cond {A = Option ℕ} b (Some n) None → m ≤ n
+          go true q z = absurd cc
+          go false q z = ltb-false n m q
+
+      position-none : (j : ℕ) → j < length l → at_hop p (get_or l j blank) ≡ false
+      position-none j h = before_first (at_hop p) l j (omega (arith, ends (position_or_len (at_hop p) l) (length l) e))
+
+-- Where a station changes and keeps the report's address, still one alone may be another at the report's hop.
+pub alone_set : (p : Report) (o : Option ℕ) (at : ℕ) (s : Station) (l : List Station) → Alone p o l → at < length l → s.address ≡ p.address
+    → Alone p o (set l at s)
+alone_set p None at s l sole there own =
+    λ i inside other. sole_set p (length l) at s l sole there own i inside (λ e. other (e ∙ sym (length-set l at s)))
+alone_set p (Some o) at s l (within, sole) there own = (rw (length-set l at s) within, sole_set p o at s l sole there own)
+
+-- What (e) leaves: all, where nobody or the station itself is at the hop; one without the hop; or one less.
+module _ (p : Report) (l : List Station) where
+  pub displaced-none : Alone p None l → l ≡ displaced p l
+  displaced-none a = sym (sole_none p (length l) l a (omega arith))
+
+  module _ (o : ℕ) (a : Alone p (Some o) l) where
+    abbrev pub s : Station
+    s = get_or l o blank
+
+    pub displaced_own : other_at p s ≡ false → l ≡ displaced p l
+    displaced_own e = sym (sole_spared p o l a.1 (spared_own p s e))
+
+    pub displaced_clear : other_at p s ≡ true → placed_somewhere (with_hop p.ringlet 0 s) ≡ true → set l o (with_hop p.ringlet 0 s) ≡ displaced p l
+    displaced_clear e stays =
+        ap (λ (x : Station). set l o x) (sym (other_stays p s e).1) ∙ sole_stays p o l a.1 a.0 ((other_stays p s e).0 ∙ stays)
+
+    pub displaced_remove : other_at p s ≡ true → placed_somewhere (with_hop p.ringlet 0 s) ≡ false → remove l o ≡ displaced p l
+    displaced_remove e leaves = sole_leaves p o l a.1 a.0 ((other_stays p s e).0 ∙ leaves)

@@ -2,16 +2,17 @@
 use Rattle.std.proofs.Common.{◌≡◌, ℕ, Bool, true, false, cond, ◌↔◌, List, [], ◌∷◌, length, get_or, refl, ap, ◌∙◌, true≢false, arith}
 use Rattle.stations.specs.Station.{Station}
 use Rattle.stations.specs.Stations.{present}
-use Rattle.stations.specs.Table.{Found, At, Nothing, found, found_number, found_values}
+use Rattle.std.specs.Prelude.{Option, Some, None}
+use Rattle.stations.specs.Table.{found, found_number, found_values}
 use Rattle.stations.specs.Finding.{Stands}
 use Rattle.stations.proofs.Places.{found_stands, found_none}
 
 pub found_number_lem : (a : ℕ) (l : List Station) → found_number (found a l) ≡ cond (present a l) 0 3
 found_number_lem a l = go (found a l) refl
   where
-    go : (f : Found) → found a l ≡ f → found_number f ≡ cond (present a l) 0 3
-    go (At i) e = rw (found_stands a l i e).there
-    go Nothing e = rw (found_none a l e).there
+    go : (f : Option ℕ) → found a l ≡ f → found_number f ≡ cond (present a l) 0 3
+    go (Some i) e = rw (found_stands a l i e).there
+    go None e = rw (found_none a l e).there
 
 -- 3 exactly when no station has the address.
 pub not-found_is_3 : (a : ℕ) (l : List Station) → (found_number (found a l) ≡ 3) ↔ (present a l ≡ false)
@@ -25,13 +26,13 @@ not-found_is_3 a l = rw (found_number_lem a l) (go (present a l))
 pub found-values : (a : ℕ) (l : List Station) (i : ℕ) → found_values (found a l) ≡ i ∷ [] → Stands a l i
 found-values a l i = go (found a l) refl
   where
-    go : (f : Found) → found a l ≡ f → found_values f ≡ i ∷ [] → Stands a l i
-    go (At j) e v = found_stands a l i (e ∙ ap At (ap (λ (x : List ℕ). get_or x 0 0) v))
-    go Nothing e v = let h : ◌≡◌ {A = ℕ} 0 1 = ap length v in absurd (omega arith)
+    go : (f : Option ℕ) → found a l ≡ f → found_values f ≡ i ∷ [] → Stands a l i
+    go (Some j) e v = found_stands a l i (e ∙ ap Some (ap (λ (x : List ℕ). get_or x 0 0) v))
+    go None e v = let h : ◌≡◌ {A = ℕ} 0 1 = ap length v in absurd (omega arith)
 
 -- Answers of one number with the same values are the same answer.
-pub founds_told_apart : (x y : Found) → found_number x ≡ found_number y → found_values x ≡ found_values y → x ≡ y
-founds_told_apart (At i) (At j) n v = ap At (ap (λ (l : List ℕ). get_or l 0 0) v)
-founds_told_apart (At i) Nothing n v = absurd (omega arith)
-founds_told_apart Nothing (At j) n v = absurd (omega arith)
-founds_told_apart Nothing Nothing n v = refl
+pub founds_told_apart : (x y : Option ℕ) → found_number x ≡ found_number y → found_values x ≡ found_values y → x ≡ y
+founds_told_apart (Some i) (Some j) n v = ap Some (ap (λ (l : List ℕ). get_or l 0 0) v)
+founds_told_apart (Some i) None n v = absurd (omega arith)
+founds_told_apart None (Some j) n v = absurd (omega arith)
+founds_told_apart None None n v = refl

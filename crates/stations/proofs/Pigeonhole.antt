@@ -3,9 +3,7 @@ use Rattle.std.proofs.Common.{◌≡◌, ℕ, zero, suc, ◌+◌, ◌≤◌, Boo
 use mathlib.Core.Bool.{false≢true}
 use borrow.Author.Tests.{eqb-false}
 use Rattle.stations.specs.Station.{Station, farthest, hop, placed_somewhere}
-use Rattle.stations.specs.Table.{Each}
-use Rattle.stations.specs.Kept.{Apart}
-use Rattle.stations.specs.Rows.{Near}
+use Rattle.stations.specs.Table.{Each, Apart, Near}
 use Rattle.stations.proofs.Lists.{chosen, each_both}
 
 -- Numbers of which each is in a range, and none comes twice.

@@ -42,7 +42,7 @@ displaced_free p heard =
     go s false e d f at = absurd (eqb-false (hop p.ringlet s) p.hop e at)
 
 -- Who stays has a hop, and none beyond the farthest.
-losing_hopped : (p : Report) (s : Station) → Hopped s → undisplaced p s ≡ true → Hopped (losing p s)
+pub losing_hopped : (p : Report) (s : Station) → Hopped s → undisplaced p s ≡ true → Hopped (losing p s)
 losing_hopped p s (here, near) = go (other_at p s)
   where
     go : (b : Bool) → cond b (placed_somewhere (with_hop p.ringlet 0 s)) true ≡ true → Hopped (cond b (with_hop p.ringlet 0 s) s)

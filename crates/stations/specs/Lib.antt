@@ -3,7 +3,6 @@ pub mod Stations
 pub mod Hearing
 pub mod Table
 pub mod Kept
-pub mod Rows
 pub mod Steps
 pub mod Copies
 pub mod Examples

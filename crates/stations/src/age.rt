@@ -1,68 +1,47 @@
 // A tick over the table.
-ghost use Rattle.std.specs.Prelude.{◌≡◌, ◌+◌, ◌-◌, nat_lt};
-ghost use Rattle.stations.specs.Stations.{aged};
-ghost use Rattle.stations.specs.Rows.{RowsHeld, RowsKept, RaisedTo, stations_in, rows_of};
+ghost use Rattle.std.specs.Prelude.{◌≡◌, filter, map};
+ghost use Rattle.std.specs.List.{All, list_all};
+ghost use Rattle.stations.specs.Station.{older};
+ghost use Rattle.stations.specs.Stations.{young, aged};
+ghost use Rattle.stations.specs.Steps.{Young};
 
-use crate::rows::{ROW_WORDS, age_in, clear_place, count, move_older, raise_age, set_count};
+use crate::station::Station;
+use crate::table::{Places, Table};
 
-// The first age that is not young. It is said of the forget time alone, so that a loop works it out once.
-fn ripe(forget: u16) -> u16
-    ensures { result ≡ forget - 1 }
+// The forget time is near for none of them.
+fn are_young(stations: &[Station], forget: u16) -> bool
+    ensures { result ≡ list_all (young forget) stations.now }
 {
-    if forget == 0 {
-        return 0;
-    }
-    forget - 1
+    stations.iter().all(|s| s.is_young(forget))
 }
 
-// The next age is still below the forget time.
-fn is_young(age: u16, forget: u16) -> bool
-    ensures { result ≡ nat_lt (age + 1) forget }
+// Stations whose age would reach the forget time leave, and the others close up. Nothing is moved before somebody leaves.
+#[tactic(auto, using(crate::proofs::Retaining::all_stay))]
+fn drop_old(stations: &mut Places, forget: u16)
+    ensures { stations.new.items ≡ filter (young forget) stations.old.items }
 {
-    age < ripe(forget)
+    if !are_young(stations.as_slice(), forget) {
+        stations.retain(|s| s.is_young(forget));
+    }
 }
 
-// Every age one higher from the first station on, as long as nobody leaves: so far nobody moves. The answer is how many there were.
-fn raise_young(rows: &mut [u64; ROW_WORDS], forget: u16) -> usize
-    requires { RowsHeld rows.old }
-    ensures { RaisedTo forget result (stations_in rows.old) rows.new }
+// Every age one higher.
+#[tactic(auto, using(crate::proofs::Retaining::young_here))]
+fn raise_all(stations: &mut [Station])
+    requires { All Young stations.old }
+    ensures { stations.new ≡ map older stations.old }
 {
-    let n = count(rows);
-    let mut i: usize = 0;
-    while i < n {
-        if is_young(age_in(rows, i), forget) {
-            raise_age(rows, i);
-            i += 1;
-        } else {
-            return i;
-        }
+    for s in stations {
+        s.age += 1;
     }
-    i
 }
 
-// Every age one higher; a station whose age reaches the forget time leaves, and the others close up.
-pub fn raise_ages(rows: &mut [u64; ROW_WORDS], forget: u16)
-    requires { RowsKept rows.old }
-    ensures { rows.new ≡ rows_of (aged forget (stations_in rows.old)) }
-{
-    let n = count(rows);
-    let mut i = raise_young(rows, forget);
-    let mut j = i;
-    while i < n {
-        let k = i;
-        i += 1;
-        let a = age_in(rows, k);
-        if is_young(a, forget) {
-            let to = j;
-            j += 1;
-            if to == k {
-                raise_age(rows, k);
-            } else {
-                move_older(rows, to, k);
-            }
-        } else {
-            clear_place(rows, k);
-        }
+impl Table {
+    // Every age one higher; a station whose age reaches the forget time leaves.
+    pub fn raise_ages(&mut self, forget: u16)
+        ensures { self.new ≡ aged forget self.old }
+    {
+        drop_old(&mut self.stations, forget);
+        raise_all(self.stations.as_mut_slice());
     }
-    set_count(rows, j);
 }

@@ -1,83 +1,93 @@
 // A report heard, steps (d), (e) and what follows them. What is refused is decided before anything is changed.
-ghost use Rattle.std.specs.Prelude.{◌≡◌, ◌<◌, true, length, get_or, slice_index_or, slice_set};
+ghost use Rattle.std.specs.Prelude.{◌≡◌, true, None, Some, slice_index_or};
+ghost use Rattle.std.specs.List.{position};
 ghost use Rattle.stations.specs.Station.{is_hop};
-ghost use Rattle.stations.specs.Hearing.{distance, heard_again, placed, placed_any, placed_new, placed_known};
-ghost use Rattle.stations.specs.Steps.{rank_of};
-ghost use Rattle.stations.specs.Table.{blank, found, At, Nothing};
-ghost use Rattle.stations.specs.Rows.{RowsHeld, RowsKept, stations_in, rows_of, left, left_by};
+ghost use Rattle.stations.specs.Stations.{displaced};
+ghost use Rattle.stations.specs.Hearing.{distance, left, placed_any, placed_new, placed_known};
+ghost use Rattle.stations.specs.Steps.{at_hop, Alone};
+ghost use Rattle.stations.specs.Table.{blank, found};
 
-use crate::displace::{displace_others, holder};
-use crate::find::rank;
-use crate::insert::{insert_at, insert_station};
-use crate::rows::{ROW_WORDS, address_in, count, put_station, sequence_in, station_in};
-use crate::station::{Report, distance, hear_again, is_hop, join};
-use wire::results;
+use crate::station::{Report, Station, distance};
+use crate::table::{Places, Table, rank};
+use wire::{Refusal, Taken};
 
 // Distances above it are those of old reports.
 const LAST_NEWER: u8 = 128;
 
-// A new station: once the one at its hop has given way there is a place. `at` is where its address goes.
-fn hear_new(rows: &mut [u64; ROW_WORDS], at: usize, p: Report) -> u8
-    requires { RowsKept rows.old × (is_hop p.hop ≡ true) × (found p.address (stations_in rows.old) ≡ Nothing) × (at ≡ rank_of p.address (stations_in rows.old)) }
-    ensures { left rows.new result ≡ left_by (placed_new p (stations_in rows.old)) }
+// The place of the station at the report's hop.
+fn holder(stations: &[Station], p: Report) -> Option<usize>
+    ensures { result ≡ position (at_hop p) stations.now }
 {
-    let there = holder(rows, p);
-    let n = count(rows);
-    displace_others(rows, there, p);
-    if count(rows) == n {
-        insert_at(rows, at, join(p));
-        return results::TAKEN;
-    }
-    insert_station(rows, join(p));
-    results::TAKEN
+    stations.iter().position(|s| s.hop(p.ringlet) == p.hop)
 }
 
-// The station at a place is heard again, its report at a distance from the one before.
-fn renew_at(rows: &mut [u64; ROW_WORDS], at: usize, p: Report, distance: u8)
-    requires { RowsHeld rows.old × (at < length (stations_in rows.old)) }
-    ensures { rows.new ≡ rows_of (slice_set (stations_in rows.old) at (heard_again distance p (slice_index_or (stations_in rows.old) at blank))) }
+// Step (e). No two stations share a hop, so that one alone may be another at the report's hop: it loses that hop, and leaves if it has none left.
+// It takes the places, not the table: a known station is renewed first, and may share its hop until this is done.
+fn displace_others(stations: &mut Places, other: Option<usize>, p: Report)
+    requires { Alone p other stations.old.items }
+    ensures { stations.new.items ≡ displaced p stations.old.items }
 {
-    let s = station_in(rows, at);
-    put_station(rows, at, hear_again(s, p, distance));
-}
-
-// A known station: an old report changes nothing; else the others at its hop give way.
-fn hear_known(rows: &mut [u64; ROW_WORDS], at: usize, p: Report) -> u8
-    requires { RowsKept rows.old × (is_hop p.hop ≡ true) × (found p.address (stations_in rows.old) ≡ At at) }
-    ensures { left rows.new result ≡ left_by (placed_known (distance p.sequence (get_or (stations_in rows.old) at blank).sequence) p (stations_in rows.old)) }
-{
-    let d = distance(p.sequence, sequence_in(rows, at));
-    if LAST_NEWER < d {
-        return results::OLD_REPORT;
-    }
-    let o = holder(rows, p);
-    renew_at(rows, at, p, d);
-    displace_others(rows, o, p);
-    results::TAKEN
-}
-
-// A report at a hop from 1 to the farthest.
-fn hear_from(rows: &mut [u64; ROW_WORDS], p: Report) -> u8
-    requires { RowsKept rows.old × (is_hop p.hop ≡ true) }
-    ensures { left rows.new result ≡ left_by (placed p (stations_in rows.old)) }
-{
-    let at = rank(rows, p.address);
-    if at < count(rows) {
-        if address_in(rows, at) == p.address {
-            return hear_known(rows, at, p);
+    let Some(at) = other else {
+        return;
+    };
+    let s = stations.as_slice()[at];
+    if s.is_other(p) {
+        let without = s.with_hop(p.ringlet, 0);
+        if without.is_somewhere() {
+            stations.as_mut_slice()[at] = without;
+        } else {
+            stations.remove(at);
         }
-        return hear_new(rows, at, p);
     }
-    hear_new(rows, at, p)
 }
 
-// The result of any report, and the stations after it. One at a hop outside 1 to 63 could need a 127th place.
-pub fn hear_report(rows: &mut [u64; ROW_WORDS], p: Report) -> u8
-    requires { RowsKept rows.old }
-    ensures { left rows.new result ≡ left_by (placed_any p (stations_in rows.old)) }
-{
-    if is_hop(p.hop) {
-        return hear_from(rows, p);
+impl Table {
+    ghost use Rattle.stations.specs.Table.{blank, found};
+
+    // A new station: once the one at its hop has given way there is a place.
+    fn hear_new(&mut self, p: Report)
+        requires hop { is_hop p.hop ≡ true }
+        requires unknown { found p.address self.old ≡ None }
+        ensures { self.new ≡ (placed_new p self.old).stations }
+    {
+        let there = holder(self.stations(), p);
+        displace_others(&mut self.stations, there, p);
+        let at = rank(self.stations.as_slice(), p.address);
+        self.stations.insert(at, Station::join(p));
     }
-    results::HOP_TOO_HIGH
+
+    // A known station: an old report changes nothing; else the others at its hop give way.
+    #[tactic(auto, using(crate::proofs::Places::found_inside))]
+    fn hear_known(&mut self, at: usize, p: Report) -> Taken
+        requires hop { is_hop p.hop ≡ true }
+        requires known { found p.address self.old ≡ Some at }
+        ensures { left self.new (Ok result) ≡ placed_known (distance p.sequence (slice_index_or self.old at blank).sequence) p self.old }
+    {
+        let known = self.stations()[at];
+        let d = distance(p.sequence, known.sequence);
+        if LAST_NEWER < d {
+            return Taken::OldReport;
+        }
+        let other = holder(self.stations(), p);
+        self.stations.as_mut_slice()[at] = known.hear_again(p, d);
+        displace_others(&mut self.stations, other, p);
+        Taken::Stored
+    }
+
+    // The result of any report, and the stations after it. One at a hop outside 1 to 63 could need a 127th place.
+    #[tactic(auto, using(crate::proofs::Places::placed_at, crate::proofs::Places::placed_nowhere), unfolding(crate::specs::Hearing::placed_any))]
+    pub fn hear_report(&mut self, p: Report) -> Result<Taken, Refusal>
+        ensures { left self.new result ≡ placed_any p self.old }
+    {
+        if !p.is_at_hop() {
+            return Err(Refusal::HopTooHigh);
+        }
+        match self.find_station(p.address) {
+            Some(at) => Ok(self.hear_known(at, p)),
+            None => {
+                self.hear_new(p);
+                Ok(Taken::Stored)
+            }
+        }
+    }
 }

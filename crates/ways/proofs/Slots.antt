@@ -1,23 +1,15 @@
 -- The places by hop, filled from the last station to the first, say what a search of the list for the first station at a hop says. Assumes nothing.
-use mathlib.Core.Path.{◌≡◌, refl, sym, ap, subst, ◌∙◌}
-use mathlib.Core.List.{List, [], ◌∷◌}
-use mathlib.Core.Bool.{Bool, true, false, cond}
-use mathlib.Core.Option.{none, some}
-use Prim.Native.Nat.{ℕ, suc, ◌+◌, ◌-◌, ◌<◌, ◌≤◌}
-use native.Mathlib.Omega.{arith}
-use lib.Dec.{eqb}
+use Rattle.std.proofs.Common.{◌≡◌, ℕ, suc, ◌+◌, ◌-◌, ◌<◌, ◌≤◌, Bool, true, false, cond, List, [], ◌∷◌, ◌++◌, length, get_or, set, slice_get, Some, None, refl, sym, ap, ◌∙◌, append_assoc, append-nil, length-append, arith, eqb, take, drop, one-add, length-take-le, length-drop, get_or-take, get_or-drop, get_or-set_same, get_or-set_other}
+use Rattle.std.specs.Prelude as prelude
+use mathlib.Core.Option.{Option, none, some}
+use lib.ListN.{length-set, get_or-replicate}
 use borrow.Author.Tests.{eqb-true, eqb-false}
-use lib.ListN.{length, drop, get_or, set, replicate, length-set, get_or-replicate}
-use lib.Seq.{drop-cons, get_or-set_same, get_or-set_other, drop-length}
+use Rattle.std.proofs.lemmas.Option.{slice_get_past, slice_get_read}
 use Rattle.stations.specs.Station.{hop}
-use Rattle.stations.specs.Stations.{capacity}
 use Rattle.stations.specs.declared.station.Station.{Station}
+use Rattle.stations.specs.Stations.{capacity}
 use Rattle.ways.specs.Walk.{Ends, held}
-use Rattle.ways.specs.Steps.{slots}
-
--- What a station requests at its two ends.
-abbrev pub ends_of : Station → Ends
-ends_of s = record { west = s.west; east = s.east }
+use Rattle.ways.specs.Steps.{slots, ends_of}
 
 -- The place of the first station at a hop, the first of the list at place i; 255 for none.
 unfoldable place_of : ℕ → ℕ → ℕ → List Station → ℕ
@@ -41,67 +33,84 @@ slot_read r j i (s ∷ l) low = go (eqb (hop r s) j) refl (slot_read r j (suc i)
         rw q (get_or-set_same (slots r (suc i) l) j i 0 (omega (arith, slots_long r (suc i) l)))
     go false p ih = get_or-set_other (slots r (suc i) l) (hop r s) j i 0 (λ q. eqb-false _ _ p (sym q)) ∙ ih
 
--- Every station has a place below the capacity, so that any other number, as 255, says that none holds the hop.
-place_none : (r j i : ℕ) (l : List Station) → i + length l ≤ capacity → capacity ≤ place_of r j i l → held r j l ≡ none
-unfolding place_of held
-place_none r j i [] room h = refl
-place_none r j i (s ∷ l) room h = go (eqb (hop r s) j) (place_none r j (suc i) l (omega arith)) h
+-- Every station has a place below the capacity, so that 255 says that none holds the hop.
+place_low : (r j i : ℕ) (l : List Station) → i + length l ≤ capacity → i ≤ place_of r j i l
+unfolding place_of
+place_low r j i [] room = omega arith
+place_low r j i (s ∷ l) room = go (eqb (hop r s) j) (place_low r j (suc i) l (omega arith))
   where
-    go : (b : Bool) → (capacity ≤ place_of r j (suc i) l → held r j l ≡ none) → capacity ≤ cond b i (place_of r j (suc i) l)
-        → cond b (some (ends_of s)) (held r j l) ≡ none
-    go true ih h = absurd (omega arith)
-    go false ih h = ih h
+    go : (b : Bool) → suc i ≤ place_of r j (suc i) l → i ≤ cond b i (place_of r j (suc i) l)
+    go true h = omega arith
+    go false h = omega arith
 
--- The station at place k, counted from i, is the one that holds hop j.
-record Holds (r j i k : ℕ) (l : List Station) (d : Station) : Type 0 where
-  low : i ≤ k
-  holds : held r j l ≡ some (ends_of (get_or l (k - i) d))
+-- Who holds a hop, where a station stands at its place, and where none does.
+abbrev pub held_by : prelude.Option Station → Option Ends
+held_by None = none
+held_by (Some s) = some (ends_of s)
 
-place_some : (r j i : ℕ) (l : List Station) (d : Station) → place_of r j i l < capacity → Holds r j i (place_of r j i l) l d
+place_held : (r j i : ℕ) (l : List Station) → i + length l ≤ capacity → held r j l ≡ held_by (slice_get l (place_of r j i l - i))
 unfolding place_of held
-place_some r j i [] d h = absurd (omega arith)
-place_some r j i (s ∷ l) d h = go (eqb (hop r s) j) refl (place_some r j (suc i) l d) h
+place_held r j i [] room = refl
+place_held r j i (s ∷ l) room = go (eqb (hop r s) j) (place_low r j (suc i) l (omega arith)) (place_held r j (suc i) l (omega arith))
   where
-    go : (b : Bool) → eqb (hop r s) j ≡ b → (place_of r j (suc i) l < capacity → Holds r j (suc i) (place_of r j (suc i) l) l d)
-        → cond b i (place_of r j (suc i) l) < capacity → Holds r j i (cond b i (place_of r j (suc i) l)) (s ∷ l) d
-    go true q ih h =
-        let z : i - i ≡ 0 = omega arith in
-        record { low = omega arith; holds = rw (q, z) }
-    go false q ih h =
-        let p : Holds r j (suc i) (place_of r j (suc i) l) l d = ih h in
-        let z : place_of r j (suc i) l - i ≡ suc (place_of r j (suc i) l - suc i) = omega (arith, p.low) in
-        record { low = omega (arith, p.low); holds = rw (q, z) p.holds }
+    go : (b : Bool) → suc i ≤ place_of r j (suc i) l → held r j l ≡ held_by (slice_get l (place_of r j (suc i) l - suc i))
+        → cond b (some (ends_of s)) (held r j l) ≡ held_by (slice_get (s ∷ l) (cond b i (place_of r j (suc i) l) - i))
+    go true low ih = let z : i - i ≡ 0 = omega arith in rw z
+    go false low ih =
+        let z : place_of r j (suc i) l - i ≡ suc (place_of r j (suc i) l - suc i) = omega (arith, low) in
+        rw z ih
+
+-- The stations behind those ahead are in the index.
+pub record Filled (r : ℕ) (l ahead : List Station) (x : List ℕ) : Type 0 where
+  pub behind : List Station
+  pub split : l ≡ ahead ++ behind
+  pub is : x ≡ slots r (length ahead) behind
 
 -- No station yet: at every hop 255.
-pub slots-start : {n : ℕ} (r : ℕ) (l : List Station) → n ≡ length l → replicate 256 255 ≡ slots r n (drop n l)
+pub filled_none : (r : ℕ) (l : List Station) → Filled r l l (prelude.replicate 256 255)
 unfolding slots
-slots-start r l q = rw (q, drop-length)
-
-step_of : (r : ℕ) (l : List Station) (x : List ℕ) (i : ℕ) (d : Station) → i < length l → x ≡ slots r (suc i) (drop (suc i) l)
-    → set x (hop r (get_or l i d)) i ≡ slots r i (drop i l)
-unfolding slots
-step_of r l x i d h q = rw (q, drop-cons l i d)
+filled_none r l = record { behind = []; split = sym (append-nil l); is = refl }
 
 -- One station more, before the others.
-pub slots-step : {x : List ℕ} {h : ℕ} (r i : ℕ) (l : List Station) (d : Station) → 0 < i → i ≤ length l → x ≡ slots r i (drop i l)
-    → h ≡ hop r (get_or l (i - 1) d) → set x h (i - 1) ≡ slots r (i - 1) (drop (i - 1) l)
-slots-step {x} r i l d p few q eq =
-    let s : i ≡ suc (i - 1) = omega arith in
-    rw eq (step_of r l x (i - 1) d (omega arith) (subst (λ (n : ℕ). x ≡ slots r n (drop n l)) s q))
+pub filled_more : {r h i : ℕ} {l ahead left : List Station} {x : List ℕ} (s : Station) → Filled r l ahead x → ahead ≡ left ++ s ∷ []
+    → h ≡ hop r s → i ≡ length left → Filled r l left (set x h i)
+unfolding slots
+filled_more {r} {h} {i} {l} {ahead} {left} {x} s f q qh qi = record {
+  behind = s ∷ f.behind;
+  split = f.split ∙ ap (λ (a : List Station). a ++ f.behind) q ∙ append_assoc left (s ∷ []) f.behind;
+  is = let n : length ahead ≡ suc (length left) = omega (arith, ap length q, length-append left (s ∷ [])) in rw (qh, qi, f.is, n);
+}
 
 -- No station left.
-pub slots-all : {x : List ℕ} (r i : ℕ) (l : List Station) → i ≤ 0 → x ≡ slots r i (drop i l) → x ≡ slots r 0 l
-slots-all {x} r i l low q = let z : i ≡ 0 = omega arith in rw z at q
+pub filled_all : {r : ℕ} {l ahead : List Station} {x : List ℕ} → Filled r l ahead x → length ahead ≡ 0 → x ≡ slots r 0 l
+filled_all {r} {l} {ahead} {x} f z = go ahead f z
+  where
+    go : (a : List Station) → Filled r l a x → length a ≡ 0 → x ≡ slots r 0 l
+    go [] f z = f.is ∙ ap (slots r 0) (sym f.split)
+    go (s ∷ a) f z = absurd (omega arith)
 
--- What the index of a list says of it.
-module _ {x : List ℕ} (r : ℕ) (l : List Station) (q : x ≡ slots r 0 l) (j : ℕ) (low : j < 256) where
-  says : get_or x j 0 ≡ place_of r j 0 l
-  says = ap (λ (y : List ℕ). get_or y j 0) q ∙ slot_read r j 0 l low
+-- The hops from hop 1 on.
+pub hops_long : (n : ℕ) (x : List ℕ) → length x ≡ 256 → n < 256 → length (take n (drop 1 x)) ≡ n
+hops_long n x long low = length-take-le n (drop 1 x) (omega (arith, length-drop 1 x, long))
 
-  pub index_none : length l ≤ capacity → capacity ≤ get_or x j 0 → held r j l ≡ none
-  index_none few h = place_none r j 0 l (omega arith) (omega (arith, says))
+-- Place k is what an index says of the j-th of n hops from hop 1 on.
+pub record Says (r j n k : ℕ) (l : List Station) : Type 0 where
+  pub low : j < n
+  pub held_is : held r (suc j) l ≡ held_by (slice_get l k)
 
-  pub index_held : (d : Station) → get_or x j 0 < capacity → held r j l ≡ some (ends_of (get_or l (get_or x j 0) d))
-  index_held d h =
-      let z : place_of r j 0 l - 0 ≡ get_or x j 0 = omega (arith, says) in
-      rw z at (place_some r j 0 l d (omega (arith, says))).holds
+pub says : {x : List ℕ} {k : ℕ} (r j n : ℕ) (l : List Station) → x ≡ slots r 0 l → length l ≤ capacity → n < 256 → j < length (take n (drop 1 x))
+    → k ≡ get_or (take n (drop 1 x)) j 0 → Says r j n k l
+says {x} {k} r j n l q few fits inside is =
+    let low : j < n = omega (arith, inside, hops_long n x (rw q (slots_long r 0 l)) fits) in
+    let read : k ≡ get_or x (suc j) 0 = is ∙ get_or-take n (drop 1 x) j 0 low ∙ get_or-drop 1 x j 0 ∙ ap (λ (i : ℕ). get_or x i 0) (one-add j) in
+    let place : k ≡ place_of r (suc j) 0 l = read ∙ ap (λ (y : List ℕ). get_or y (suc j) 0) q ∙ slot_read r (suc j) 0 l (omega (arith, low)) in
+    let z : place_of r (suc j) 0 l - 0 ≡ k = omega (arith, place) in
+    record { low = low; held_is = rw z at (place_held r (suc j) 0 l (omega (arith, few))) }
+
+-- No station stands there ..
+pub hop_free : {r j n k : ℕ} {l : List Station} → Says r j n k l → length l ≤ k → held r (suc j) l ≡ none
+hop_free {r} {j} {n} {k} {l} i past = i.held_is ∙ ap held_by (slice_get_past l k past)
+
+-- .. or s does.
+pub hop_held : {r j n k : ℕ} {l : List Station} (s : Station) → Says r j n k l → k < length l → s ≡ get_or l k s → held r (suc j) l ≡ some (ends_of s)
+hop_held {r} {j} {n} {k} {l} s i stands same = i.held_is ∙ ap held_by (slice_get_read l (length l) k s refl stands same)

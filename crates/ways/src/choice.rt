@@ -1,14 +1,13 @@
 // The choice of a way.
 ghost use Rattle.std.specs.Prelude.{◌≡◌};
-ghost use Rattle.stations.specs.Rows.{RowsKept, stations_in};
-ghost use Rattle.ways.specs.Choice.{way, steering_to, number};
-ghost use Rattle.ways.specs.Steps.{side_of, better_of, choice_of, told_of, steering_of};
+ghost use Rattle.ways.specs.Choice.{steering_to, number};
+ghost use Rattle.ways.specs.Steps.{choice_of, direction, told_of};
 
-use crate::walk::{Walked, walk_to};
-use spans::codes::SF;
-use stations::{Found, ROW_WORDS};
+use crate::walk::Course;
+use crate::way::Way;
+use stations::Table;
 
-#[derive(Clone, Copy)]
+#[derive(Clone, Copy, Debug, PartialEq, Eq)]
 pub enum Reply {
     West,
     East,
@@ -17,7 +16,7 @@ pub enum Reply {
 }
 
 // The reply, and of the way chosen its hops, its worst request and the first span that has it; zeros where none is chosen.
-#[derive(Clone, Copy)]
+#[derive(Clone, Copy, Debug, PartialEq, Eq)]
 pub struct Steering {
     pub reply: Reply,
     pub hops: u8,
@@ -25,139 +24,80 @@ pub struct Steering {
     pub span: u8,
 }
 
-// One direction: not usable, or its worst request, its hops and the first span that has that request.
-#[derive(Clone, Copy)]
-pub enum Side {
-    Closed,
-    Open { worst: u8, hops: u8, span: u8 },
-}
-
-// One direction to a station at hop h of its ringlet; the index is room for the walk.
-fn look(index: &mut [u8; 256], rows: &[u64; ROW_WORDS], ringlet: u8, own: u8, h: u8) -> Side
-    requires { RowsKept rows.now }
-    ensures { result ≡ side_of (way ringlet own (stations_in rows.now) h) }
-{
-    if h == 0 {
-        return Side::Closed;
-    }
-    let w = walk_to(index, rows, ringlet, own, h);
-    match w {
-        Walked::Broken => Side::Closed,
-        Walked::Worst { worst, span } => {
-            if worst < SF {
-                return Side::Open {
-                    worst,
-                    hops: h,
-                    span,
-                };
-            }
-            Side::Closed
+impl Reply {
+    fn choose(west: Option<Way>, east: Option<Way>) -> Reply
+        ensures { result ≡ choice_of west east }
+    {
+        match (west, east) {
+            (None, None) => Reply::NoWay,
+            (Some(_), None) => Reply::West,
+            (Some(w), Some(e)) if w.beats(e) => Reply::West,
+            (_, Some(_)) => Reply::East,
         }
     }
-}
 
-// Both directions can be used: the lower worst request, then fewer hops, then west.
-fn better(west: u8, west_hops: u8, east: u8, east_hops: u8) -> Reply
-    ensures { result ≡ better_of west west_hops east east_hops }
-{
-    if west < east {
-        return Reply::West;
+    // The direction that a reply names.
+    fn named(self, west: Option<Way>, east: Option<Way>) -> Option<Way>
+        ensures { result ≡ direction self west east }
+    {
+        match self {
+            Reply::West => west,
+            Reply::East => east,
+            Reply::NoWay | Reply::Unknown => None,
+        }
     }
-    if east < west {
-        return Reply::East;
-    }
-    if west_hops <= east_hops {
-        return Reply::West;
-    }
-    Reply::East
-}
 
-fn choose(west: Side, east: Side) -> Reply
-    ensures { result ≡ choice_of west east }
-{
-    match west {
-        Side::Closed => match east {
-            Side::Closed => Reply::NoWay,
-            Side::Open {
-                worst: _,
-                hops: _,
-                span: _,
-            } => Reply::East,
-        },
-        Side::Open {
-            worst,
-            hops,
-            span: _,
-        } => match east {
-            Side::Closed => Reply::West,
-            Side::Open {
-                worst: other,
-                hops: others,
-                span: _,
-            } => better(worst, hops, other, others),
-        },
-    }
-}
-
-// What is told of a direction.
-fn tell(reply: Reply, side: Side) -> Steering
-    ensures { result ≡ told_of reply side }
-{
-    match side {
-        Side::Closed => Steering {
-            reply,
-            hops: 0,
-            worst: 0,
-            span: 0,
-        },
-        Side::Open { worst, hops, span } => Steering {
-            reply,
-            hops,
-            worst,
-            span,
-        },
-    }
-}
-
-// What is told of the direction that a reply names.
-fn pass_on(reply: Reply, west: Side, east: Side) -> Steering
-    ensures { result ≡ steering_of reply west east }
-{
-    match reply {
-        Reply::West => tell(Reply::West, west),
-        Reply::East => tell(Reply::East, east),
-        Reply::NoWay => tell(Reply::NoWay, Side::Closed),
-        Reply::Unknown => tell(Reply::Unknown, Side::Closed),
+    // What is told with a reply of the direction that it names.
+    fn tell(self, way: Option<Way>) -> Steering
+        ensures { result ≡ told_of self way }
+    {
+        let w = way.unwrap_or_default();
+        Steering {
+            reply: self,
+            hops: w.hops,
+            worst: w.worst,
+            span: w.span,
+        }
     }
 }
 
 // The way to the station of an address, from the own requests west and east, and where the trouble on it is.
-pub fn way_to(rows: &[u64; ROW_WORDS], west: u8, east: u8, address: u64) -> Steering
-    requires { RowsKept rows.now }
-    ensures { result ≡ steering_to west east (stations_in rows.now) address }
+#[tactic(auto, using(crate::proofs::Sides::way_unknown))]
+pub fn way_to(table: &Table, west: u8, east: u8, address: u64) -> Steering
+    ensures { result ≡ steering_to west east table.now address }
 {
-    let f = stations::find_station(rows, address);
-    match f {
-        Found::Nothing => tell(Reply::Unknown, Side::Closed),
-        Found::At(at) => {
-            let hop0 = stations::hop_at(rows, at, 0);
-            let hop1 = stations::hop_at(rows, at, 1);
-            let mut index = [255u8; 256];
-            let west_side = look(&mut index, rows, 0, west, hop0);
-            let east_side = look(&mut index, rows, 1, east, hop1);
-            pass_on(choose(west_side, east_side), west_side, east_side)
-        }
+    let Some(at) = table.find_station(address) else {
+        return Reply::Unknown.tell(None);
+    };
+    let s = table.station_at(at);
+    // One index, lent to both directions: two would be 256 bytes more of stack.
+    let mut index = [0; 256];
+    let west_way = Course {
+        ringlet: 0,
+        own: west,
+        hops: s.hop0,
     }
+    .way(&mut index, table);
+    let east_way = Course {
+        ringlet: 1,
+        own: east,
+        hops: s.hop1,
+    }
+    .way(&mut index, table);
+    let reply = Reply::choose(west_way, east_way);
+    reply.tell(reply.named(west_way, east_way))
 }
 
 // The number that 01 gives each reply.
-pub fn number(r: Reply) -> u8
-    ensures { result ≡ number r }
-{
-    match r {
-        Reply::West => 0,
-        Reply::East => 1,
-        Reply::NoWay => 2,
-        Reply::Unknown => 3,
+impl From<Reply> for u8 {
+    ghost from_gives = { λ r n. n ≡ number r };
+
+    fn from(r: Reply) -> u8 {
+        match r {
+            Reply::West => 0,
+            Reply::East => 1,
+            Reply::NoWay => 2,
+            Reply::Unknown => 3,
+        }
     }
 }

@@ -1,87 +1,94 @@
 // One pass over the table to find who stands at each hop, and one along the hops. The side is the ringlet: 0 is west, any other number east.
 ghost use Rattle.std.specs.Prelude.{◌≡◌};
-ghost use Rattle.stations.specs.Rows.{RowsKept, stations_in};
-ghost use Rattle.ways.specs.Walk.{walk};
-ghost use Rattle.ways.specs.Steps.{slots, first_worst, walked};
+ghost use Rattle.ways.specs.Walk.{near, far, walk};
+ghost use Rattle.ways.specs.Steps.{slots, ends_of, walked, below_failure, side_of};
+ghost use Rattle.ways.specs.Choice.{way};
 
-use spans::codes::IDLE;
-use stations::{PLACES, ROW_WORDS, side};
+use crate::way::Way;
+use spans::codes::{IDLE, SF};
+use stations::{Station, Table};
 
-// The worst request of a walk, and the first span that has it.
+// The place of the station at each hop of a ringlet.
+pub(crate) type Index = [u8; 256];
+
+// No station has this place. An Option in each would take 512 bytes of stack, an Option of a station 2,048, where the index takes 256.
+const NOBODY: u8 = 255;
+
+// The place of the station at each hop of a ringlet. From the last station to the first, so that the first one counts.
+#[tactic(auto, using(crate::proofs::Slots::filled_more, crate::proofs::Slots::filled_all))]
+fn fill_index(index: &mut Index, table: &Table, ringlet: u8)
+    ensures { index.new ≡ slots ringlet 0 table.now }
+{
+    *index = [NOBODY; 256];
+    for (i, s) in table.stations().iter().enumerate().rev() {
+        // `as`, which is proved to lose nothing: there is no `From`, and `try_from` with an `unwrap` is no plainer.
+        index[usize::from(s.hop(ringlet))] = i as u8;
+    }
+}
+
+// A way whose spans are all below SF.
+fn below_failure(way: Option<Way>) -> Option<Way>
+    ensures { result ≡ below_failure way }
+{
+    way.filter(|w| w.worst < SF)
+}
+
+// The walk over the hops 1 to `hops` of a ringlet, from the own request on that side.
 #[derive(Clone, Copy)]
-pub enum Walked {
-    Broken,
-    Worst { worst: u8, span: u8 },
+pub(crate) struct Course {
+    pub ringlet: u8,
+    pub own: u8,
+    pub hops: u8,
 }
 
-// The place of the station at each hop of a ringlet; 255 where there is none. From the last station to the first, so that the first one counts.
-fn fill_index(index: &mut [u8; 256], rows: &[u64; ROW_WORDS], ringlet: u8)
-    requires { RowsKept rows.now }
-    ensures { index.new ≡ slots ringlet 0 (stations_in rows.now) }
-{
-    *index = [255; 256];
-    let mut i = stations::station_count(rows);
-    while 0 < i {
-        i -= 1;
-        let hop = stations::hop_at(rows, i, ringlet) as usize;
-        index[hop] = i as u8;
-    }
-}
-
-fn wide(k: u8) -> usize
-    ensures { result ≡ k }
-{
-    k as usize
-}
-
-// How many hops lie before the first span with the worst request so far, once the span beyond hop j is crossed: only a worse request moves it.
-fn first_worst(worst: u8, request: u8, before: usize, j: usize) -> usize
-    ensures { result ≡ first_worst worst request before j }
-{
-    if worst < request {
-        return j;
-    }
-    before
-}
-
-// The walk over the hops 1 to h, with the index of its ringlet; j hops are behind it.
-fn walk_along(index: &[u8; 256], rows: &[u64; ROW_WORDS], ringlet: u8, own: u8, h: u8) -> Walked
-    requires { RowsKept rows.now × (index.now ≡ slots ringlet 0 (stations_in rows.now)) }
-    ensures { result ≡ walked (walk ringlet own (stations_in rows.now) h) }
-{
-    let hops = h as usize;
-    let mut worst: u8 = IDLE;
-    let mut before: usize = 0;
-    let mut end = own;
-    let mut j: usize = 0;
-    while j < hops {
-        let k = wide(index[j + 1]);
-        if PLACES <= k {
-            return Walked::Broken;
+impl Course {
+    // The end at which it comes to a station, and the one at which it leaves it.
+    fn ends(self, s: &Station) -> (u8, u8)
+        ensures { result ≡ (near self.ringlet (ends_of s.now), far self.ringlet (ends_of s.now)) }
+    {
+        if self.ringlet == 0 {
+            (s.east, s.west)
+        } else {
+            (s.west, s.east)
         }
-        let west = stations::west_at(rows, k);
-        let east = stations::east_at(rows, k);
-        let request = spans::higher(end, side(ringlet, east, west));
-        before = first_worst(worst, request, before, j);
-        worst = spans::higher(worst, request);
-        end = side(ringlet, west, east);
-        j += 1;
     }
-    let span = (before + 1) as u8;
-    Walked::Worst { worst, span }
-}
 
-// The walk over the hops 1 to h of a ringlet, from the own request on that side. The index is room for it: what it held does not matter.
-pub(crate) fn walk_to(
-    index: &mut [u8; 256],
-    rows: &[u64; ROW_WORDS],
-    ringlet: u8,
-    own: u8,
-    h: u8,
-) -> Walked
-    requires { RowsKept rows.now }
-    ensures { result ≡ walked (walk ringlet own (stations_in rows.now) h) }
-{
-    fill_index(index, rows, ringlet);
-    walk_along(index, rows, ringlet, own, h)
+    // With the index of its ringlet. It counts the hops before the first span with the worst request: only a worse request moves it.
+    fn walk_along(self, index: &Index, table: &Table) -> Option<Way>
+        requires { index.now ≡ slots self.ringlet 0 table.now }
+        ensures { result ≡ walked self.hops (walk self.ringlet self.own table.now self.hops) }
+    {
+        let stations = table.stations();
+        let mut worst = IDLE;
+        let mut before = 0;
+        let mut end = self.own;
+        for (j, k) in index[1..=usize::from(self.hops)].iter().enumerate() {
+            let s = stations.get(usize::from(*k))?;
+            let (near, far) = self.ends(s);
+            let request = spans::higher(end, near);
+            if worst < request {
+                worst = request;
+                before = j;
+            }
+            end = far;
+        }
+        // `as` is proved to lose nothing here too.
+        Some(Way {
+            worst,
+            hops: self.hops,
+            span: (before + 1) as u8,
+        })
+    }
+
+    // The way, where it can be used. The index is room for the walk: what it held does not matter.
+    #[tactic(auto, using(crate::proofs::Sides::side_zero, crate::proofs::Sides::side_walked))]
+    pub(crate) fn way(self, index: &mut Index, table: &Table) -> Option<Way>
+        ensures { result ≡ side_of (way self.ringlet self.own table.now self.hops) }
+    {
+        if self.hops == 0 {
+            return None;
+        }
+        fill_index(index, table, self.ringlet);
+        below_failure(self.walk_along(index, table))
+    }
 }

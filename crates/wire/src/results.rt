@@ -1,28 +1,68 @@
-// The numbers returned for a record. 1 to 8 are refusals.
+// What a record is answered, and the numbers that 01 gives the answers.
+ghost use Rattle.std.specs.Prelude.{◌≡◌};
+ghost use Rattle.wire.specs.Results.{number, refusal_number, taken_number};
 
-pub const TAKEN: u8 = 0;
+// What a record, settings or a block is refused with.
+#[derive(Clone, Copy, Debug, PartialEq, Eq)]
+pub enum Refusal {
+    NoRoom,
+    Broken,
+    WrongKind,
+    // Wrong body length, a field out of range, or an odd first address byte.
+    Unfit,
+    OwnAddress,
+    HopTooHigh,
+    NotInTable,
+    Malformed,
+}
 
-pub const NO_ROOM: u8 = 1;
+// What becomes of a record that is not refused.
+#[derive(Clone, Copy, Debug, PartialEq, Eq)]
+pub enum Taken {
+    Stored,
+    WrongRinglet,
+    SpanDown,
+    OldReport,
+    SetAside,
+}
 
-pub const BROKEN: u8 = 2;
+impl From<Refusal> for u8 {
+    ghost from_gives = { λ r n. n ≡ refusal_number r };
 
-pub const WRONG_KIND: u8 = 3;
+    fn from(r: Refusal) -> u8 {
+        match r {
+            Refusal::NoRoom => 1,
+            Refusal::Broken => 2,
+            Refusal::WrongKind => 3,
+            Refusal::Unfit => 4,
+            Refusal::OwnAddress => 5,
+            Refusal::HopTooHigh => 6,
+            Refusal::NotInTable => 7,
+            Refusal::Malformed => 8,
+        }
+    }
+}
 
-// Wrong body length, a field out of range, or an odd first address byte.
-pub const UNFIT: u8 = 4;
+impl From<Taken> for u8 {
+    ghost from_gives = { λ t n. n ≡ taken_number t };
 
-pub const OWN_ADDRESS: u8 = 5;
+    fn from(t: Taken) -> u8 {
+        match t {
+            Taken::Stored => 0,
+            Taken::WrongRinglet => 20,
+            Taken::SpanDown => 21,
+            Taken::OldReport => 22,
+            Taken::SetAside => 24,
+        }
+    }
+}
 
-pub const HOP_TOO_HIGH: u8 = 6;
-
-pub const NOT_IN_TABLE: u8 = 7;
-
-pub const MALFORMED: u8 = 8;
-
-pub const WRONG_RINGLET: u8 = 20;
-
-pub const SPAN_DOWN: u8 = 21;
-
-pub const OLD_REPORT: u8 = 22;
-
-pub const SET_ASIDE: u8 = 24;
+// The number returned for a record: 1 to 8 for a refusal, else 0 or 20 to 24.
+pub fn number(answer: Result<Taken, Refusal>) -> u8
+    ensures { result ≡ number answer }
+{
+    match answer {
+        Ok(taken) => taken.into(),
+        Err(refusal) => refusal.into(),
+    }
+}

@@ -1,22 +1,22 @@
--- Before each test of the loop the node is that after the reads so far. Assumes nothing.
+-- Before each record the node is that after the reads so far. Assumes nothing.
+use mathlib.Core.Path.{sym, ◌∙◌}
 use borrow.Author.Rules.{rules}
-use Rattle.drill.proofs.Running.{at_first, one_more_lem, out_of_numbers, at_the_end}
+use Rattle.drill.proofs.Running.{at_first, one_more_lem, at_the_end, out_of_numbers}
 use Rattle.drill.proofs.run.Goals as goal
 
 pub loop-number-init : goal.loop-number-init
-loop-number-init c = at_first c.requires
+loop-number-init c = at_first c.args.node.now
 
-pub next-t-requires : goal.next-t-requires
-next-t-requires c =
-    c.loop-number.invariant.kept
+pub returns-then-is_break : goal.returns-then-is_break
+returns-then-is_break c =
+    at_the_end c.next.result c.loop-number.invariant c.next.ensures (sym c.is_break.ensures ∙ c.if-is_break.true)
 
 pub loop-number-preserved : goal.loop-number-preserved
 loop-number-preserved c =
-    one_more_lem c.loop-number.invariant (search rules) c.if-more.true c.next-t.ensures
+    one_more_lem c.next.result c.loop-number.invariant c.next.ensures (sym c.is_break.ensures ∙ c.if-is_break.false)
 
-pub returns-else-more : goal.returns-else-more
-returns-else-more c =
-    at_the_end c.loop-number.invariant c.if-more.false
-
-pub returns-after-loop-number : goal.returns-after-loop-number
-returns-after-loop-number c = out_of_numbers c.loop-number.invariant (search rules)
+pub returns-else-is_break : goal.returns-else-is_break
+returns-else-is_break c =
+    out_of_numbers
+    (one_more_lem c.next.result c.loop-number.invariant c.next.ensures (sym c.is_break.ensures ∙ c.if-is_break.false))
+    (search rules) (search rules)

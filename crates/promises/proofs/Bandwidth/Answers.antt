@@ -8,7 +8,7 @@ use lib.Dec.{ltb}
 use Rattle.blocks.specs.Types.{among}
 use Rattle.stations.specs.declared.station.Station.{Station}
 use Rattle.controller.specs.State.{State}
-use Rattle.bandwidth.specs.declared.free.Free.{Free}
+use Rattle.bandwidth.specs.Free.{Free}
 use Rattle.bandwidth.specs.Free.{unreserved, first_behind, refused, answered, unless_behind, free_bandwidth}
 use Rattle.promises.specs.Bandwidth.{any_behind, rate_tests, first_applying}
 

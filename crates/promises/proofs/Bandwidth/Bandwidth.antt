@@ -18,7 +18,7 @@ use Rattle.controller.specs.Node.{Node, Started, settings_of, state_of}
 use Rattle.controller.specs.State.{Choice, State, started}
 use Rattle.controller.specs.Kept.{StateKept, Kept}
 use Rattle.controller.specs.Promise.{Begun}
-use Rattle.bandwidth.specs.declared.free.Free.{Free}
+use Rattle.bandwidth.specs.Free.{Free}
 use Rattle.bandwidth.specs.Free.{unreserved, refused, free_bandwidth}
 use Rattle.promises.specs.History.{Call, after, start_of, Made, made_of, calls_of, node_after, Met}
 use Rattle.promises.specs.Levels.{NoEight, knowing, with_level, NoEightMade}

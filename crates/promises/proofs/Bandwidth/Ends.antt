@@ -6,10 +6,8 @@ use lib.IntN.{pos, negsuc, neg_ℤ, ◌-ℤ◌}
 use lib.Dec.{ltb, le→leb}
 use lib.Signed.{◌≤ℤ◌, le_z_yes}
 use Rattle.stations.specs.Stations.{capacity}
-use Rattle.stations.proofs.Telling.{stations_ranged}
 use Rattle.controller.specs.State.{State}
 use Rattle.controller.specs.Kept.{StateKept}
-use Rattle.controller.proofs.Nodes.{ages_fit}
 use Rattle.bandwidth.specs.Free.{reservations, unreserved}
 use Rattle.bandwidth.proofs.Summing.{reservations-low}
 
@@ -39,8 +37,7 @@ in_range_lem s k ringlet rate own low = (
       (omega (
         arith,
         k.stations.few,
-        reservations-low ringlet s.stations
-            (stations_ranged s.choice.address s.choice.ticks.forget s.choice.known (ages_fit s k) s.stations k.stations),
+        reservations-low s.choice.address s.choice.ticks.forget s.choice.known ringlet s.stations k.stations.each,
       )),
   upper rate (own + reservations ringlet s.stations),
 )

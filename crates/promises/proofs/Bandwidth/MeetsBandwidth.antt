@@ -16,13 +16,11 @@ use Rattle.blocks.specs.Types.{knows, good, among}
 use Rattle.blocks.specs.Levels.{Sub}
 use Rattle.blocks.specs.Entries.{cut}
 use Rattle.blocks.specs.Meaning.{known, has, sound, behind, value}
-use Rattle.stations.specs.Table.{blank, table_of}
-use Rattle.stations.specs.Rows.{image, table_in}
-use Rattle.controller.specs.Own.{own_of}
+use Rattle.stations.specs.Table.{blank}
 use Rattle.controller.specs.State.{started}
 use Rattle.controller.specs.Kept.{Kept}
 use Rattle.controller.specs.Node.{started_with, state_of}
-use Rattle.bandwidth.specs.declared.free.Free.{Free}
+use Rattle.bandwidth.specs.Free.{Free}
 use Rattle.bandwidth.specs.Free.{unreserved, refused, answered, free_bandwidth}
 use Rattle.promises.specs.History.{after, start_of, calls_of, Met, node_after}
 use Rattle.promises.specs.Levels.{NoEight, knowing, with_level, NoEightMade}
@@ -89,7 +87,7 @@ unfolding AllHanded are_bytes
 given_met = made_met large_node given (are_bytes_lem (attributes 2 one_and_two) refl, (are_bytes_lem (report 0 255 2 1 0 0) refl, tt))
 
 pub given_no_eight : NoEightMade (made large_node given)
-unfolding NoEightMade made started_with table_of image table_in own_of blank settings_in head_of broken full_in fields_of in_range address_at ticks_of cut known has sound behind value knows good among
+unfolding NoEightMade made started_with blank settings_in head_of broken full_in fields_of in_range address_at ticks_of cut known has sound behind value knows good among
 given_no_eight = (λ e. omega arith, (λ e. omega arith, tt))
 
 pub given_alike :

@@ -14,7 +14,7 @@ use Rattle.stations.specs.declared.station.Station.{Station}
 use Rattle.stations.specs.Station.{with_attributes}
 use Rattle.stations.specs.Stations.{present, attributes_of}
 use Rattle.controller.specs.State.{Choice, State}
-use Rattle.controller.specs.declared.ask.Shown.{Shown}
+use Rattle.controller.specs.Node.{Shown}
 use Rattle.controller.specs.Node.{shown, asked}
 use Rattle.bandwidth.specs.Free.{reservation, reservations, unreserved, first_behind, unless_behind, free_bandwidth}
 use Rattle.promises.specs.Levels.{dressed, value_shown, Levelled}

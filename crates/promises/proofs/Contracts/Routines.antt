@@ -8,78 +8,67 @@ use Rattle.blocks.specs.contracts as blocks_contract
 use Rattle.blocks.proofs as blocks
 use Rattle.blocks.specs.Meaning.{block_at}
 use Rattle.blocks.specs.Writing.{Wrote}
-use Rattle.controller.specs.contracts as controller_contract
-use Rattle.controller.proofs as controller
-use Rattle.controller.specs.Node.{node, started_in, answer_in, settings_of, state_of, west_request, east_request, steering, asked}
-use Rattle.controller.specs.Kept.{Kept}
+use Rattle.controller.specs.contracts.node.Node as Node_contract
+use Rattle.controller.proofs.node.Node as Node
+use Rattle.controller.specs.Node.{started_in, answer_in, settings_of, state_of, west_request, east_request, steering, asked, shown_as}
 use Rattle.controller.specs.Promise.{Begun, Recorded}
 use Rattle.bandwidth.specs.contracts as bandwidth_contract
 use Rattle.bandwidth.proofs as bandwidth
-use Rattle.bandwidth.specs.Free.{free_bandwidth}
-use Rattle.promises.specs.Contracts.{RoutineMeets, RoutineAlwaysMeets}
+use Rattle.bandwidth.specs.Free.{free_bandwidth, free_as}
+use Rattle.promises.specs.Contracts.{RoutineAlwaysMeets}
 
 -- Any bytes.
 pub start_meets :
-    RoutineAlwaysMeets controller_contract.start.ended controller.start.Symbol.name controller.start.Symbol.code
-    (λ κs a x e. Begun a.0.now (started_in e.1.0.now e.1.1.0.now x))
-start_meets w = controller.start.Met.met w.𝓤 w.𝓛 w.𝓜 w.𝓡
+    RoutineAlwaysMeets Node_contract.start.ended Node.start.Symbol.name Node.start.Symbol.code
+    (λ κs a x e. Begun a.1.0.now (started_in e.0.now x))
+start_meets w = Node.start.Met.met w.𝓤 w.𝓛 w.𝓜 w.𝓡
 
--- A node that is kept; any bytes and any buffer.
+-- Any bytes and any buffer.
 pub take_record_meets :
-    RoutineMeets controller_contract.take_record.ended controller.take_record.Symbol.name controller.take_record.Symbol.code
-    (λ κs a. Kept (node a.0.now a.1.0.now))
-    (λ κs a x e. Recorded (node a.0.now a.1.0.now) a.1.1.0.now a.1.1.1.0.now e.1.1.1.0.now
-    (answer_in e.0.now e.1.0.now x))
-take_record_meets w = controller.take_record.Met.met w.𝓤 w.𝓛 w.𝓜 w.𝓡
+    RoutineAlwaysMeets Node_contract.take_record.ended Node.take_record.Symbol.name Node.take_record.Symbol.code
+    (λ κs a x e. Recorded a.0.now a.1.0.now a.1.1.0.now e.1.1.0.now (answer_in e.0.now x))
+take_record_meets w = Node.take_record.Met.met w.𝓤 w.𝓛 w.𝓜 w.𝓡
 
--- A node that is kept; any number for an address.
+-- Any number for an address.
 pub steer_meets :
-    RoutineMeets controller_contract.steer.ended controller.steer.Symbol.name controller.steer.Symbol.code
-    (λ κs a. Kept (node a.0.now a.1.0.now))
-    (λ κs a x e. x ≡ steering (state_of (node a.0.now a.1.0.now)) a.1.1.0)
-steer_meets w = controller.steer.Met.met w.𝓤 w.𝓛 w.𝓜 w.𝓡
+    RoutineAlwaysMeets Node_contract.steer.ended Node.steer.Symbol.name Node.steer.Symbol.code
+    (λ κs a x e. x ≡ steering (state_of a.0.now) a.1.0)
+steer_meets w = Node.steer.Met.met w.𝓤 w.𝓛 w.𝓜 w.𝓡
 
 pub attributes_meets :
-    RoutineMeets controller_contract.attributes.ended controller.attributes.Symbol.name controller.attributes.Symbol.code
-    (λ κs a. Kept (node a.0.now a.1.0.now))
-    (λ κs a x e. x ≡ asked (state_of (node a.0.now a.1.0.now)) a.1.1.0)
-attributes_meets w = controller.attributes.Met.met w.𝓤 w.𝓛 w.𝓜 w.𝓡
+    RoutineAlwaysMeets Node_contract.attributes.ended Node.attributes.Symbol.name Node.attributes.Symbol.code
+    (λ κs a x e. shown_as x ≡ asked (state_of a.0.now) a.1.0)
+attributes_meets w = Node.attributes.Met.met w.𝓤 w.𝓛 w.𝓜 w.𝓡
 
 pub west_request_meets :
-    RoutineMeets controller_contract.west_request.ended controller.west_request.Symbol.name controller.west_request.Symbol.code
-    (λ κs a. Kept (node a.0.now a.1.0.now))
-    (λ κs a x e. x ≡ west_request (state_of (node a.0.now a.1.0.now)))
-west_request_meets w = controller.west_request.Met.met w.𝓤 w.𝓛 w.𝓜 w.𝓡
+    RoutineAlwaysMeets Node_contract.west_request.ended Node.west_request.Symbol.name Node.west_request.Symbol.code
+    (λ κs a x e. x ≡ west_request (state_of a.0.now))
+west_request_meets w = Node.west_request.Met.met w.𝓤 w.𝓛 w.𝓜 w.𝓡
 
 pub east_request_meets :
-    RoutineMeets controller_contract.east_request.ended controller.east_request.Symbol.name controller.east_request.Symbol.code
-    (λ κs a. Kept (node a.0.now a.1.0.now))
-    (λ κs a x e. x ≡ east_request (state_of (node a.0.now a.1.0.now)))
-east_request_meets w = controller.east_request.Met.met w.𝓤 w.𝓛 w.𝓜 w.𝓡
+    RoutineAlwaysMeets Node_contract.east_request.ended Node.east_request.Symbol.name Node.east_request.Symbol.code
+    (λ κs a x e. x ≡ east_request (state_of a.0.now))
+east_request_meets w = Node.east_request.Met.met w.𝓤 w.𝓛 w.𝓜 w.𝓡
 
 pub level_meets :
-    RoutineMeets controller_contract.level.ended controller.level.Symbol.name controller.level.Symbol.code
-    (λ κs a. Kept (node a.0.now a.1.0.now))
-    (λ κs a x e. x ≡ (settings_of (node a.0.now a.1.0.now)).level)
-level_meets w = controller.level.Met.met w.𝓤 w.𝓛 w.𝓜 w.𝓡
+    RoutineAlwaysMeets Node_contract.level.ended Node.level.Symbol.name Node.level.Symbol.code
+    (λ κs a x e. x ≡ (settings_of a.0.now).level)
+level_meets w = Node.level.Met.met w.𝓤 w.𝓛 w.𝓜 w.𝓡
 
 pub own_sequence_meets :
-    RoutineMeets controller_contract.own_sequence.ended controller.own_sequence.Symbol.name controller.own_sequence.Symbol.code
-    (λ κs a. Kept (node a.0.now a.1.0.now))
-    (λ κs a x e. x ≡ (state_of (node a.0.now a.1.0.now)).pacer.sequence)
-own_sequence_meets w = controller.own_sequence.Met.met w.𝓤 w.𝓛 w.𝓜 w.𝓡
+    RoutineAlwaysMeets Node_contract.own_sequence.ended Node.own_sequence.Symbol.name Node.own_sequence.Symbol.code
+    (λ κs a x e. x ≡ (state_of a.0.now).pacer.sequence)
+own_sequence_meets w = Node.own_sequence.Met.met w.𝓤 w.𝓛 w.𝓜 w.𝓡
 
 pub station_count_meets :
-    RoutineMeets controller_contract.station_count.ended controller.station_count.Symbol.name controller.station_count.Symbol.code
-    (λ κs a. Kept (node a.0.now a.1.0.now))
-    (λ κs a x e. x ≡ length (state_of (node a.0.now a.1.0.now)).stations)
-station_count_meets w = controller.station_count.Met.met w.𝓤 w.𝓛 w.𝓜 w.𝓡
+    RoutineAlwaysMeets Node_contract.station_count.ended Node.station_count.Symbol.name Node.station_count.Symbol.code
+    (λ κs a x e. x ≡ length (state_of a.0.now).stations)
+station_count_meets w = Node.station_count.Met.met w.𝓤 w.𝓛 w.𝓜 w.𝓡
 
--- A node that is kept; any numbers.
+-- Any numbers.
 pub free_bandwidth_meets :
-    RoutineMeets bandwidth_contract.free_bandwidth.ended bandwidth.free_bandwidth.Symbol.name bandwidth.free_bandwidth.Symbol.code
-    (λ κs a. Kept (node a.0.now a.1.0.now))
-    (λ κs a x e. x ≡ free_bandwidth (state_of (node a.0.now a.1.0.now)) a.1.1.0 a.1.1.1.0 a.1.1.1.1.0)
+    RoutineAlwaysMeets bandwidth_contract.free_bandwidth.ended bandwidth.free_bandwidth.Symbol.name bandwidth.free_bandwidth.Symbol.code
+    (λ κs a x e. free_as x ≡ free_bandwidth (state_of a.0.now) a.1.0 a.1.1.0 a.1.1.1.0)
 free_bandwidth_meets w = bandwidth.free_bandwidth.Met.met w.𝓤 w.𝓛 w.𝓜 w.𝓡
 
 -- Any numbers and any buffer.

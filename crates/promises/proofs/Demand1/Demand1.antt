@@ -7,10 +7,11 @@ use mathlib.Core.Path.{◌≡◌, ◌∙◌, ap}
 use mathlib.Core.Bool.{true, false}
 use mathlib.Core.List.{List, [], ◌∷◌}
 use lib.ListN.{length}
+use Rattle.std.specs.Prelude.{Result}
+use Rattle.wire.specs.declared.results.Refusal.{Refusal}
 use Rattle.settings.specs.Ranges.{defaults}
 use Rattle.blocks.specs.Types.{among}
-use Rattle.blocks.specs.declared.writing.Written.{Written}
-use Rattle.blocks.specs.Writing.{Wrote}
+use Rattle.blocks.specs.Writing.{written_as, Wrote}
 use Rattle.blocks.proofs.RoundTrip.{refusal-leaves}
 use Rattle.controller.specs.State.{State, started}
 use Rattle.controller.specs.Record.{refusal, outcomes}
@@ -100,6 +101,6 @@ pub begun-refused_default : (b : List ℕ) (r : Started) → Begun b r → (r.re
 begun-refused_default b r h = rw h.is (start-refused_default b)
 
 -- A block to be written that is refused: no byte is written, and the length is 0.
-pub unwritten_leaves : (level w0 w1 b0 b1 : ℕ) (old new : List ℕ) (w : Written) → Wrote level w0 w1 b0 b1 old new w → (w.result ≡ 0 → ⊥)
-    → (new ≡ old) × (w.length ≡ 0)
+pub unwritten_leaves : (level w0 w1 b0 b1 : ℕ) (old new : List ℕ) (w : Result ℕ Refusal) → Wrote level w0 w1 b0 b1 old new w → ((written_as w).result ≡ 0 → ⊥)
+    → (new ≡ old) × ((written_as w).length ≡ 0)
 unwritten_leaves = refusal-leaves

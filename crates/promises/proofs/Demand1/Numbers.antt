@@ -18,8 +18,8 @@ use Rattle.stations.specs.declared.station.Report.{Report}
 use Rattle.stations.specs.Station.{farthest}
 use Rattle.stations.specs.Stations.{displaced, renewed, present, sequence_of}
 use Rattle.stations.specs.Hearing.{Placed, distance, heard_again, placed_known, placed_new, placed_by, placed}
-use Rattle.controller.specs.declared.reading.Reading.{Reading}
-use Rattle.controller.specs.declared.reading.Reading.TheVariants.{Refused, Tick, Link, Keepalive, Operator, Heard, Block}
+use Rattle.controller.specs.Reading.{Reading}
+use Rattle.controller.specs.Reading.{Refused, Tick, Link, Keepalive, Operator, Heard, Block}
 use Rattle.controller.specs.Reading.{link_fits, keepalive_fits, operator_fits, report_fits, report_in, block_fits, block_in, block_of, count_in, ticks_fit, ticks_in, reading}
 use Rattle.controller.specs.State.{State, span_of}
 use Rattle.controller.specs.Handling.{acted, gives, hearing, taking, learning}

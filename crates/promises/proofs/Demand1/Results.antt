@@ -7,9 +7,10 @@ use lib.ListN.{length}
 use Rattle.wire.specs.Head.{body_of}
 use Rattle.wire.specs.Report.{over}
 use Rattle.stations.specs.Hearing.{Placed}
-use Rattle.controller.specs.declared.reading.Reading.{Reading}
+use Rattle.controller.specs.Reading.{Reading}
 use Rattle.controller.specs.Reading.{block_of, count_in, reading, many_ticks}
-use Rattle.controller.specs.State.{Spans, State}
+use Rattle.controller.specs.State.{State}
+use Rattle.controller.specs.declared.sides.Spans.{Spans}
 use Rattle.controller.specs.Handling.{acted, judged}
 use Rattle.controller.specs.Closing.{is_tick}
 use Rattle.controller.specs.Record.{Outcome, refusal, refuses, closed, outcome_of, outcome, outcomes}
@@ -85,7 +86,7 @@ module _ {n : Node} {b old new : List ℕ} {r : Answer} (h : Recorded n b old ne
     same = untouched (state_of n) b (length old) (rw recorded_result at refused)
 
     pub answer-refused : r ≡ record { node = n; result = (outcomes (state_of n) b (length old)).result; reports = 0 }
-    answer-refused = h.is ∙ ap (answer_of n) same ∙ refused_same n (outcomes (state_of n) b (length old)).result k
+    answer-refused = h.is ∙ ap (answer_of n) same ∙ refused_same n (outcomes (state_of n) b (length old)).result
 
     pub buffer-refused : new ≡ old
     buffer-refused = h.content ∙ ap (λ (o : Outcome). over o.report old) same ∙ sym (over_none old)

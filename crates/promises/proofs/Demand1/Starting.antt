@@ -6,12 +6,14 @@ use mathlib.Core.List.{List, [], ◌∷◌}
 use mathlib.Core.Option.{Option, none, some}
 use lib.Dec.{eqb, leb}
 use Rattle.wire.specs.Fields.{address_at}
+use Rattle.std.specs.Prelude.{Result, Ok, Err}
 use Rattle.wire.specs.Head.{kind_of, body_of, broken, head_of}
-use Rattle.wire.specs.declared.head.Head.TheVariants.{Refused, Kind}
+use Rattle.wire.specs.declared.results.Refusal.{Refusal}
+use Rattle.wire.specs.declared.results.Refusal.TheVariants.{Broken, WrongKind, Unfit}
 use Rattle.settings.specs.declared.choice.Settings.{Settings}
-use Rattle.settings.specs.declared.reading.SettingsRead.{SettingsRead}
+use Rattle.settings.specs.Reading.{SettingsRead}
 use Rattle.settings.specs.Ranges.{defaults}
-use Rattle.settings.specs.Reading.{taken, refused, fields_of, full_fits, full_in, short_fits, short_in, read_as, settings_in}
+use Rattle.settings.specs.Reading.{taken, refused, fields_of, full_fits, full_in, short_fits, short_in, read_as, told, settings_in}
 use Rattle.blocks.specs.Types.{among}
 use Rattle.controller.specs.State.{State, started}
 use Rattle.controller.specs.Node.{choice_of, node_of, started_with}
@@ -22,7 +24,7 @@ module _ (s : State) (b : List ℕ) (room : ℕ) (P : Option ℕ → SettingsRea
     (other : P (some 3) (refused 3)) (unfit : P (some 4) (refused 4)) (took : (x : Settings) → P none (taken x)) where
   -- The body, once the kind is one of the two.
   body_cases : (full fits short : Bool) (x y : Settings)
-      → P (cond (not (cond full fits short)) (some 4) none) (cond full (cond fits (taken x) (refused 4)) (cond short (taken y) (refused 4)))
+      → P (cond (not (cond full fits short)) (some 4) none) (told (cond full (cond fits (Ok x) (Err Unfit)) (cond short (Ok y) (Err Unfit))))
   body_cases true true short x y = took x
   body_cases true false short x y = unfit
   body_cases false fits true x y = took y
@@ -38,7 +40,7 @@ module _ (s : State) (b : List ℕ) (room : ℕ) (P : Option ℕ → SettingsRea
       o : Option ℕ
       o = cond (not (cond (eqb (kind_of b) 32) (full_fits body) (short_fits body))) (some 4) none
 
-      go : (t k : Bool) → P (cond t (some 2) (cond (not k) (some 3) o)) (read_as (cond t (Refused 2) (cond k (Kind (kind_of b)) (Refused 3))) body)
+      go : (t k : Bool) → P (cond t (some 2) (cond (not k) (some 3) o)) (told (read_as (cond t (Err Broken) (cond k (Ok (kind_of b)) (Err WrongKind))) body))
       go true k = broke
       go false false = other
       go false true =

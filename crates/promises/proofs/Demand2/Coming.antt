@@ -32,7 +32,7 @@ module _ (st : Started) (first : Kept st.node) where
 
   -- The settings in the words are those of the beginning.
   settings_is : (h : List Made) (n : Node) → Came c n (state_after h) → settings_of n ≡ c
-  settings_is h n k = settings-told n c (state_after h) k.kept k.is
+  settings_is h n k = settings-told n c (state_after h) k.is
 
   -- What the rules make of a call at a node is what they make of it in their own state.
   outcome_is : (h : List Made) (n : Node) (m : Made) → Came c n (state_after h)
@@ -41,7 +41,7 @@ module _ (st : Started) (first : Kept st.node) where
 
   came : (h : List Made) → Met st h → Came c (node_after st h) (state_after h)
   unfolding Met made_of after_all
-  came [] met = record { is = first.whole; shows = refl; kept = first }
+  came [] met = record { is = refl; shows = refl; kept = first }
   came (m ∷ h) met = go (came h met.1)
     where
       go : Came c (node_after st h) (state_after h) → Came c m.answer.node (state_after (m ∷ h))
@@ -79,7 +79,7 @@ module _ (b : List ℕ) (st : Started) (begun : Begun b st) where
   start-settings : settings_of st.node ≡ (settings_in b).settings
   unfolding started_with
   start-settings =
-      settings-told st.node (settings_in b).settings (started (choice_of (settings_in b).settings)) begun.kept (ap (λ (x : Started). x.node) begun.is)
+      settings-told st.node (settings_in b).settings (started (choice_of (settings_in b).settings)) (ap (λ (x : Started). x.node) begun.is)
 
   start-state : state_of st.node ≡ start_of b
   unfolding start_of

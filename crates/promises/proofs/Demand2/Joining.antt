@@ -19,10 +19,11 @@ use Rattle.stations.specs.Table.{Each}
 use Rattle.stations.specs.Hearing.{Placed, placed, placed_new}
 use Rattle.stations.proofs.Lists.{chosen}
 use Rattle.stations.proofs.Hops.{hop_other, hop-somewhere, newcomer-hop}
-use Rattle.controller.specs.declared.reading.Reading.{Reading}
-use Rattle.controller.specs.declared.reading.Reading.TheVariants.{Heard}
+use Rattle.controller.specs.Reading.{Reading}
+use Rattle.controller.specs.Reading.{Heard}
 use Rattle.controller.specs.Reading.{block_of, many_ticks}
-use Rattle.controller.specs.State.{Spans, State, span_of}
+use Rattle.controller.specs.State.{State, span_of}
+use Rattle.controller.specs.declared.sides.Spans.{Spans}
 use Rattle.controller.specs.Handling.{acted, gives, hearing, judged}
 use Rattle.controller.specs.Closing.{is_tick, settled, purged_if, swept}
 use Rattle.controller.specs.Record.{Outcome, closed, outcome_of, outcome, outcomes}

@@ -10,7 +10,7 @@ use lib.Seq.{take_at}
 use borrow.Author.Tests.{le-leb}
 use Rattle.wire.specs.Head.{body_of}
 use Rattle.wire.specs.Report.{over}
-use Rattle.controller.specs.declared.reading.Reading.TheVariants.{Tick}
+use Rattle.controller.specs.Reading.{Tick}
 use Rattle.controller.specs.Reading.{count_in, many_ticks}
 use Rattle.controller.specs.State.{State}
 use Rattle.controller.specs.Record.{Outcome, outcome_of, ticking, outcomes}

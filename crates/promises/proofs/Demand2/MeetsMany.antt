@@ -7,7 +7,6 @@ use lib.ListN.{replicate}
 use Rattle.wire.specs.Head.{broken}
 use Rattle.wire.specs.Report.{report_bytes, over}
 use Rattle.settings.specs.Ticks.{ticks_of}
-use Rattle.controller.specs.Own.{own_of}
 use Rattle.controller.specs.Reading.{many_ticks}
 use Rattle.controller.specs.Record.{outcomes}
 use Rattle.controller.specs.Node.{state_of, answer_of}
@@ -63,5 +62,5 @@ all_same = many_as_single fresh fresh_kept all all_met all-taken (made (from fre
 
 -- Three reports, of one and the same sequence: nothing has changed.
 pub all_three : (all.answer.reports ≡ 3) × (all.answer.result ≡ 0)
-unfolding fresh outcomes report_bytes own_of ticks_of
+unfolding fresh outcomes report_bytes ticks_of
 all_three = (refl, refl)

@@ -7,8 +7,8 @@ use native.Mathlib.Omega.{arith}
 use lib.ListN.{replicate, replicate-append-replicate}
 use borrow.Author.Tests.{le-ltb}
 use Rattle.wire.specs.Head.{body_of, broken}
-use Rattle.controller.specs.declared.reading.Reading.{Reading}
-use Rattle.controller.specs.declared.reading.Reading.TheVariants.{Tick}
+use Rattle.controller.specs.Reading.{Reading}
+use Rattle.controller.specs.Reading.{Tick}
 use Rattle.controller.specs.Reading.{count_in, reading, many_ticks}
 use Rattle.controller.specs.State.{State}
 use Rattle.controller.specs.Handling.{acted, judged}

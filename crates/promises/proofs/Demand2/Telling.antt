@@ -14,16 +14,17 @@ use Rattle.wire.specs.Report.{report_bytes, over, ReadsBack}
 use Rattle.wire.proofs.ReadsBack.{report-reads_back}
 use Rattle.settings.specs.declared.choice.Ticks.{Ticks}
 use Rattle.pacer.specs.declared.steps.Pacer.{Pacer}
-use Rattle.pacer.specs.declared.steps.Paced.{Paced}
+use Rattle.pacer.specs.Pace.{Paced}
 use Rattle.pacer.specs.Pace.{changed, due, falling, ticked, paced}
 use Rattle.spans.specs.Requests.{request}
 use Rattle.stations.specs.Hearing.{Placed}
 use Rattle.stations.proofs.Lists.{chosen}
 use Rattle.controller.specs.Node.{Node, Answer, state_of, reports_in, west_request, east_request}
-use Rattle.controller.specs.declared.reading.Reading.{Reading}
-use Rattle.controller.specs.declared.reading.Reading.TheVariants.{Refused, Tick}
+use Rattle.controller.specs.Reading.{Reading}
+use Rattle.controller.specs.Reading.{Refused, Tick}
 use Rattle.controller.specs.Reading.{block_of, count_in, read_in, reading, many_ticks}
-use Rattle.controller.specs.State.{Spans, State}
+use Rattle.controller.specs.State.{State}
+use Rattle.controller.specs.declared.sides.Spans.{Spans}
 use Rattle.controller.specs.Handling.{acted, judged}
 use Rattle.controller.specs.Closing.{settled, pacing, is_tick, report_of}
 use Rattle.controller.specs.Record.{Outcome, refusal, refuses, closed, outcome_of, outcome, ticking, outcomes}

@@ -10,8 +10,8 @@ use Rattle.blocks.specs.Meaning.{malformed, meaning}
 use Rattle.blocks.specs.Levels.{Sub}
 use Rattle.stations.specs.declared.station.Station.{Station}
 use Rattle.stations.specs.Stations.{present}
-use Rattle.controller.specs.declared.reading.Reading.{Reading}
-use Rattle.controller.specs.declared.reading.Reading.TheVariants.{Refused, Tick, Link, Keepalive, Operator, Heard, Block}
+use Rattle.controller.specs.Reading.{Reading}
+use Rattle.controller.specs.Reading.{Refused, Tick, Link, Keepalive, Operator, Heard, Block}
 use Rattle.controller.specs.Reading.{block_of, reading}
 use Rattle.controller.specs.State.{State, span_of}
 use Rattle.controller.specs.Handling.{gives, learning}

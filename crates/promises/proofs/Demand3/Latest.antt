@@ -8,7 +8,7 @@ use mathlib.Core.Option.{Option, none}
 use Rattle.blocks.specs.Levels.{Sub}
 use Rattle.stations.specs.declared.station.Station.{Station}
 use Rattle.stations.specs.Stations.{present}
-use Rattle.controller.specs.declared.reading.Reading.{Reading}
+use Rattle.controller.specs.Reading.{Reading}
 use Rattle.controller.specs.Reading.{reading}
 use Rattle.controller.specs.State.{State}
 use Rattle.promises.specs.History.{Call, answered}

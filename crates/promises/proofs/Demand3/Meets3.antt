@@ -13,9 +13,7 @@ use Rattle.settings.specs.Reading.{fields_of, full_in, settings_in}
 use Rattle.blocks.specs.Types.{knows, good, among}
 use Rattle.blocks.specs.Entries.{cut}
 use Rattle.blocks.specs.Meaning.{known, has, sound, behind, value}
-use Rattle.stations.specs.Table.{blank, table_of}
-use Rattle.stations.specs.Rows.{image, table_in}
-use Rattle.controller.specs.Own.{own_of}
+use Rattle.stations.specs.Table.{blank}
 use Rattle.controller.specs.Promise.{Begun}
 use Rattle.controller.specs.Node.{started_with, asked}
 use Rattle.promises.specs.History.{after, after_all, spelled_out, answered, start_of, made_of, Met}
@@ -92,5 +90,5 @@ pub same_calls : made_of (made small_node handed) ≡ made_of (made large_node h
 same_calls = calls_made small_node large_node handed
 
 pub none_eight : NoEightMade (made large_node handed)
-unfolding NoEightMade made started_with table_of image table_in own_of blank settings_in head_of broken full_in fields_of in_range address_at ticks_of cut known has sound behind value knows good among
+unfolding NoEightMade made started_with blank settings_in head_of broken full_in fields_of in_range address_at ticks_of cut known has sound behind value knows good among
 none_eight = (λ e. omega arith, (λ e. omega arith, (λ e. omega arith, tt)))

@@ -18,7 +18,7 @@ use Rattle.blocks.proofs.Fewer.{fewer, values_kept}
 use Rattle.stations.specs.Stations.{present, attributes_of}
 use Rattle.ways.specs.Choice.{numbers, way_to, steering_to, hop_of}
 use Rattle.controller.specs.State.{State}
-use Rattle.controller.specs.declared.ask.Shown.{Shown}
+use Rattle.controller.specs.Node.{Shown}
 use Rattle.controller.specs.Node.{west_request, east_request, steering, shown, asked}
 use Rattle.promises.specs.Levels.{FirstUnknown, dressed, says_behind, value_shown, Levelled, attributes_by, under}
 use Rattle.promises.proofs.Demand3.First.{unknown_of, of_unknown}

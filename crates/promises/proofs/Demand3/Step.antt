@@ -19,10 +19,11 @@ use Rattle.stations.specs.declared.station.Station.{Station}
 use Rattle.stations.specs.declared.station.Report.{Report}
 use Rattle.stations.specs.Stations.{purged, present, given}
 use Rattle.stations.specs.Hearing.{Placed}
-use Rattle.controller.specs.declared.reading.Reading.{Reading}
-use Rattle.controller.specs.declared.reading.Reading.TheVariants.{Refused, Tick, Link, Keepalive, Operator, Heard, Block}
+use Rattle.controller.specs.Reading.{Reading}
+use Rattle.controller.specs.Reading.{Refused, Tick, Link, Keepalive, Operator, Heard, Block}
 use Rattle.controller.specs.Reading.{block_of}
-use Rattle.controller.specs.State.{Spans, State, span_of}
+use Rattle.controller.specs.State.{State, span_of}
+use Rattle.controller.specs.declared.sides.Spans.{Spans}
 use Rattle.controller.specs.Handling.{acted, gives, hearing, taking, learning, judged}
 use Rattle.controller.specs.Closing.{purged_if, swept, is_tick}
 use Rattle.controller.specs.Record.{Outcome, refusal, closed, unless_refused, outcome_of}

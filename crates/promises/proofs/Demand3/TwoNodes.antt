@@ -16,7 +16,7 @@ use Rattle.blocks.specs.Levels.{Sub}
 use Rattle.blocks.proofs.Known.{knows_more}
 use Rattle.controller.specs.Node.{Started, choice_of, state_of, reports_in}
 use Rattle.controller.specs.State.{Choice, State, started}
-use Rattle.controller.specs.declared.reading.Reading.TheVariants.{Tick}
+use Rattle.controller.specs.Reading.{Tick}
 use Rattle.controller.specs.Reading.{count_in}
 use Rattle.controller.specs.Record.{Outcome, outcome_of, ticking}
 use Rattle.controller.proofs.Ticking.{ticking_result}

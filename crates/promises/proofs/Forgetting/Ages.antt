@@ -22,10 +22,11 @@ use Rattle.stations.proofs.Renewing.{renewed_each}
 use Rattle.stations.proofs.Inserting.{inserted_each, unknown_nobody, displaced_nobody}
 use Rattle.stations.proofs.Placing.{placed-ends}
 use Rattle.stations.proofs.Hops.{again-address}
-use Rattle.controller.specs.declared.reading.Reading.{Reading}
-use Rattle.controller.specs.declared.reading.Reading.TheVariants.{Refused, Tick, Link, Keepalive, Operator, Heard, Block}
+use Rattle.controller.specs.Reading.{Reading}
+use Rattle.controller.specs.Reading.{Refused, Tick, Link, Keepalive, Operator, Heard, Block}
 use Rattle.controller.specs.Reading.{block_of}
-use Rattle.controller.specs.State.{Choice, Spans, State, span_of}
+use Rattle.controller.specs.State.{Choice, State, span_of}
+use Rattle.controller.specs.declared.sides.Spans.{Spans}
 use Rattle.controller.specs.Handling.{acted, gives, hearing, taking, learning, judged}
 use Rattle.controller.specs.Closing.{is_tick, settled, purged_if, swept}
 use Rattle.controller.specs.Record.{Outcome, refusal, closed, unless_refused, outcome_of, outcome}

@@ -20,10 +20,11 @@ use Rattle.stations.specs.Hearing.{Placed, distance, heard_again, placed}
 use Rattle.stations.proofs.Lists.{chosen}
 use Rattle.stations.proofs.Placing.{placed-ends}
 use Rattle.stations.proofs.Hops.{same_or_other, hop_same, hop_other, hop-somewhere, again-address, again-hop, again_other}
-use Rattle.controller.specs.declared.reading.Reading.{Reading}
-use Rattle.controller.specs.declared.reading.Reading.TheVariants.{Refused, Tick, Link, Keepalive, Operator, Heard, Block}
+use Rattle.controller.specs.Reading.{Reading}
+use Rattle.controller.specs.Reading.{Refused, Tick, Link, Keepalive, Operator, Heard, Block}
 use Rattle.controller.specs.Reading.{block_of}
-use Rattle.controller.specs.State.{Choice, Spans, State, span_of}
+use Rattle.controller.specs.State.{Choice, State, span_of}
+use Rattle.controller.specs.declared.sides.Spans.{Spans}
 use Rattle.controller.specs.Handling.{acted, gives, hearing, taking, learning, judged}
 use Rattle.controller.specs.Closing.{is_tick, settled}
 use Rattle.controller.specs.Record.{Outcome, refusal, closed, unless_refused, outcome_of, outcome}

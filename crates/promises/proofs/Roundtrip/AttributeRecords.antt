@@ -10,7 +10,7 @@ use borrow.Author.Tests.{le-ltb}
 use Rattle.wire.specs.Fields.{address_at, odd_first, Bytes}
 use Rattle.wire.specs.Head.{length_of, body_of, broken}
 use Rattle.wire.proofs.Heads.{right_length}
-use Rattle.controller.specs.declared.reading.Reading.TheVariants.{Block}
+use Rattle.controller.specs.Reading.{Block}
 use Rattle.controller.specs.Reading.{reading}
 use Rattle.controller.proofs.Bodies.{block-said, kind_block, read_whole}
 use Rattle.blocks.specs.Writing.{weight_bytes, bandwidth_bytes, bytes_at}

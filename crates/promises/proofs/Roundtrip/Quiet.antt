@@ -23,13 +23,14 @@ use Rattle.stations.proofs.Lists.{each_map, each_both}
 use Rattle.stations.proofs.Sifting.{sifted_same}
 use Rattle.stations.proofs.Renewing.{renewed-all}
 use Rattle.stations.proofs.Keeping.{unheld_given}
-use Rattle.controller.specs.declared.reading.Reading.TheVariants.{Block}
-use Rattle.controller.specs.State.{Spans, State}
+use Rattle.controller.specs.Reading.{Block}
+use Rattle.controller.specs.State.{State}
+use Rattle.controller.specs.declared.sides.Spans.{Spans}
 use Rattle.controller.specs.Handling.{acted, gives, taking, learning, judged}
 use Rattle.controller.specs.Closing.{settled, purged_if, swept, pacing, report_of}
 use Rattle.controller.specs.Record.{unless_refused, closed, outcome_of}
 use Rattle.controller.specs.Kept.{StateKept}
-use Rattle.controller.proofs.Packing.{settled-none}
+use Rattle.controller.proofs.Settling.{settled-none}
 use Rattle.promises.specs.Quiet.{with_stations}
 
 -- Every station has a hop.

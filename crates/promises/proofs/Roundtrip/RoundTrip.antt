@@ -6,6 +6,8 @@ use mathlib.Core.List.{List, [], ◌∷◌, ◌++◌}
 use native.Mathlib.Omega.{arith}
 use lib.ListN.{length, take, length-take}
 use lib.Dec.{eqb, leb}
+use Rattle.std.specs.Prelude.{Result, Ok, Option, Some, None}
+use Rattle.wire.specs.declared.results.Refusal.{Refusal}
 use Rattle.wire.specs.Fields.{address_at, odd_first, Bytes}
 use Rattle.wire.specs.Head.{broken, head_of}
 use Rattle.settings.specs.declared.choice.Settings.{Settings}
@@ -15,16 +17,15 @@ use Rattle.settings.specs.Reading.{fields_of, full_in, settings_in}
 use Rattle.settings.proofs.Keeping.{settings_kept, ticks_kept}
 use Rattle.spans.specs.Requests.{down}
 use Rattle.blocks.specs.declared.reading.Block.TheVariants.{Values}
-use Rattle.blocks.specs.declared.writing.Written.{Written}
 use Rattle.blocks.specs.Types.{level_in_range, knows}
 use Rattle.blocks.specs.Meaning.{Meaning, meaning, block, block_at}
-use Rattle.blocks.specs.Writing.{weight_bytes, bandwidth_bytes, bytes_at, unfit, refusal, refused_with, wrote, Wrote}
+use Rattle.blocks.specs.Writing.{weight_bytes, bandwidth_bytes, bytes_at, unfit, refusal, answered, written_as, Wrote}
 use Rattle.blocks.proofs.RoundTrip.{written_reads_back, buffer-reads_back}
 use Rattle.stations.specs.Stations.{given, present}
 use Rattle.stations.specs.Kept.{StationKept}
 use Rattle.controller.specs.Node.{Node, Answer, choice_of, settings_of, state_of, asked}
-use Rattle.controller.specs.declared.reading.Reading.{Reading}
-use Rattle.controller.specs.declared.reading.Reading.TheVariants.{Block}
+use Rattle.controller.specs.Reading.{Reading}
+use Rattle.controller.specs.Reading.{Block}
 use Rattle.controller.specs.State.{State, span_of}
 use Rattle.controller.specs.Handling.{gives}
 use Rattle.controller.specs.Record.{outcome_of, outcome, outcomes}
@@ -57,7 +58,7 @@ module _ (s : State) (k : StateKept s) (span a room : ℕ) (side : span ≤ 1) (
 
   -- A block that is read as values is taken, and the station shows them.
   values-heard : (w0 w1 b0 b1 : ℕ) (b : List ℕ) → length b ≤ 1024 → down s.choice.ticks (span_of span s.spans) ≡ false
-      → block (meaning s.choice.known b) ≡ Values w0 w1 b0 b1
+      → block (meaning s.choice.known b) ≡ Ok (Values w0 w1 b0 b1)
       → ((outcomes s (attribute_record span a b) room).result ≡ 0) × (asked (outcomes s (attribute_record span a b) room).state a ≡ values w0 w1 b0 b1)
   unfolding asked
   values-heard w0 w1 b0 b1 b short up reads =
@@ -76,12 +77,13 @@ few_bytes level w0 w1 b0 b1 = go (leb 2 level)
     go true = omega arith
     go false = omega arith
 
-few_written : (level w0 w1 b0 b1 : ℕ) (before after : List ℕ) (w : Written) → Wrote level w0 w1 b0 b1 before after w → w.length ≤ 14
-few_written level w0 w1 b0 b1 before after w c = rw c.answer (go (eqb (refusal level w0 w1 b0 b1 (length before)) 0))
+few_written : (level w0 w1 b0 b1 : ℕ) (before after : List ℕ) (w : Result ℕ Refusal) → Wrote level w0 w1 b0 b1 before after w
+    → (written_as w).length ≤ 14
+few_written level w0 w1 b0 b1 before after w c = rw c.answer (go (refusal level w0 w1 b0 b1 (length before)))
   where
-    go : (b : Bool) → (cond b (wrote (length (bytes_at level w0 w1 b0 b1))) (refused_with (refusal level w0 w1 b0 b1 (length before)))).length ≤ 14
-    go true = few_bytes level w0 w1 b0 b1
-    go false = omega arith
+    go : (o : Option Refusal) → (written_as (answered o (length (bytes_at level w0 w1 b0 b1)))).length ≤ 14
+    go None = few_bytes level w0 w1 b0 b1
+    go (Some r) = omega arith
 
 -- "level 1 to 2" is the same range to the settings and to the writer: every node has a level at which blocks are written.
 pub level_is_written : (c : Settings) → in_range c ≡ true → level_in_range c.level ≡ true
@@ -116,7 +118,7 @@ handed-over level w0 w1 b0 b1 h0 h1 k0 k1 span a side small =
 module _ (n : Node) (k : Kept n) (w0 w1 b0 b1 span a : ℕ) (side : span ≤ 1)
     (up : down (ticks_of (settings_of n)) (span_of span (state_of n).spans) ≡ false) (there : present a (state_of n).stations ≡ true)
     (old new : List ℕ) (enough : 7 ≤ length old) (r : Answer) where
-  values-answered : (b : List ℕ) → length b ≤ 1024 → block_at (settings_of n).level b ≡ Values w0 w1 b0 b1
+  values-answered : (b : List ℕ) → length b ≤ 1024 → block_at (settings_of n).level b ≡ Ok (Values w0 w1 b0 b1)
       → Recorded n (attribute_record span a b) old new r → (r.result ≡ 0) × (asked (state_of r.node) a ≡ values w0 w1 b0 b1)
   unfolding block_at
   values-answered b short reads c =
@@ -131,11 +133,11 @@ module _ (n : Node) (k : Kept n) (w0 w1 b0 b1 span a : ℕ) (side : span ≤ 1)
       values-answered (bytes_at level w0 w1 b0 b1) (omega (arith, few_bytes level w0 w1 b0 b1)) (written_reads_back level w0 w1 b0 b1 fits)
 
   -- And by the contract of the writer too: the block is what a call that answered 0 left at the front of its buffer.
-  pub written_and-heard : (before after : List ℕ) (w : Written) → Wrote (settings_of n).level w0 w1 b0 b1 before after w → w.result ≡ 0
-      → Recorded n (attribute_record span a (take w.length after)) old new r → (r.result ≡ 0) × (asked (state_of r.node) a ≡ values w0 w1 b0 b1)
+  pub written_and-heard : (before after : List ℕ) (w : Result ℕ Refusal) → Wrote (settings_of n).level w0 w1 b0 b1 before after w
+      → (written_as w).result ≡ 0 → Recorded n (attribute_record span a (take (written_as w).length after)) old new r → (r.result ≡ 0) × (asked (state_of r.node) a ≡ values w0 w1 b0 b1)
   written_and-heard before after w c done =
       let level : ℕ = (settings_of n).level in
-      values-answered (take w.length after) (omega (arith, length-take w.length after, few_written level w0 w1 b0 b1 before after w c))
+      values-answered (take (written_as w).length after) (omega (arith, length-take (written_as w).length after, few_written level w0 w1 b0 b1 before after w c))
       (buffer-reads_back level w0 w1 b0 b1 before after w c done)
 
 -- Such a node meets what is asked of it; both levels, by computation.

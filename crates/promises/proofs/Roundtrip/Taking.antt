@@ -4,6 +4,7 @@ use mathlib.Core.Path.{◌≡◌, refl, ◌∙◌}
 use mathlib.Core.Bool.{Bool, true, false, cond, ◌||◌, false≢true}
 use mathlib.Core.List.{List, [], ◌∷◌}
 use mathlib.Core.Option.{some}
+use Rattle.std.specs.Prelude.{Ok}
 use lib.Dec.{eqb}
 use borrow.Author.Tests.{eqb-true}
 use Rattle.settings.specs.declared.choice.Ticks.{Ticks}
@@ -15,7 +16,8 @@ use Rattle.stations.specs.declared.station.Station.{Station}
 use Rattle.stations.specs.Station.{with_attributes}
 use Rattle.stations.specs.Stations.{renewed, given, present, attributes_of}
 use Rattle.stations.specs.Table.{Each}
-use Rattle.controller.specs.State.{Spans, span_of}
+use Rattle.controller.specs.State.{span_of}
+use Rattle.controller.specs.declared.sides.Spans.{Spans}
 use Rattle.controller.specs.Handling.{gives, taking, learning}
 use Rattle.controller.proofs.Judging.{taking-values}
 
@@ -51,5 +53,5 @@ unfolding learning
 learning-takes t n a m x l up there = rw (up, there)
 
 pub learning-values : (w0 w1 b0 b1 : ℕ) (t : Ticks) (n a : ℕ) (m : Meaning) (x : Spans) (l : List Station) → down t (span_of n x) ≡ false
-    → present a l ≡ true → block m ≡ Values w0 w1 b0 b1 → learning t n a m x l ≡ gives 0 (given a (carried w0 w1 b0 b1) l)
+    → present a l ≡ true → block m ≡ Ok (Values w0 w1 b0 b1) → learning t n a m x l ≡ gives 0 (given a (carried w0 w1 b0 b1) l)
 learning-values w0 w1 b0 b1 t n a m x l up there e = learning-takes t n a m x l up there ∙ taking-values a l m w0 w1 b0 b1 e

@@ -13,10 +13,11 @@ use Rattle.spans.specs.Records.{linked, ticked, alive, asked}
 use Rattle.spans.specs.Requests.{automatic}
 use Rattle.spans.proofs.Beneath.{waited-asked, linked-asked}
 use Rattle.wire.proofs.Truths.{neither}
-use Rattle.controller.specs.declared.reading.Reading.{Reading}
-use Rattle.controller.specs.declared.reading.Reading.TheVariants.{Refused, Tick, Link, Keepalive, Operator, Heard, Block}
+use Rattle.controller.specs.Reading.{Reading}
+use Rattle.controller.specs.Reading.{Refused, Tick, Link, Keepalive, Operator, Heard, Block}
 use Rattle.controller.specs.Reading.{block_of}
-use Rattle.controller.specs.State.{Choice, Spans, State, span_of}
+use Rattle.controller.specs.State.{Choice, State, span_of}
+use Rattle.controller.specs.declared.sides.Spans.{Spans}
 use Rattle.controller.specs.Handling.{acted}
 use Rattle.controller.specs.Closing.{settled}
 use Rattle.controller.specs.Record.{outcome_of, outcome}

@@ -13,7 +13,7 @@ use Rattle.spans.specs.Records.{ticked}
 use Rattle.spans.specs.Requests.{automatic, request}
 use Rattle.spans.specs.HoldOff.{HeldOff, LinkAlone, LinkDecides}
 use Rattle.spans.proofs.HoldOff.{held-linked, held-ticked, held_same, still-held, held-over, idle_while_held, sf_when_over, sd_when_over}
-use Rattle.controller.specs.declared.reading.Reading.TheVariants.{Link}
+use Rattle.controller.specs.Reading.{Link}
 use Rattle.controller.specs.State.{Choice, State}
 use Rattle.promises.specs.History.{Call, after}
 use Rattle.promises.specs.Spans.{own_in, ticks_in, read_as, is_link, ticks_taken, link_taken, span_after, request_on, automatic_on}

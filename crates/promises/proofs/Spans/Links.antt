@@ -12,9 +12,10 @@ use Rattle.spans.specs.Requests.{automatic, waited}
 use Rattle.spans.proofs.HoldOff.{SameLink, waited-link}
 use Rattle.wire.proofs.Truths.{neither}
 use Rattle.stations.proofs.Lists.{chosen}
-use Rattle.controller.specs.declared.reading.Reading.{Reading}
-use Rattle.controller.specs.declared.reading.Reading.TheVariants.{Refused, Tick, Link, Keepalive, Operator, Heard, Block}
-use Rattle.controller.specs.State.{Spans, State, span_of, with_span}
+use Rattle.controller.specs.Reading.{Reading}
+use Rattle.controller.specs.Reading.{Refused, Tick, Link, Keepalive, Operator, Heard, Block}
+use Rattle.controller.specs.State.{State, span_of, with_span}
+use Rattle.controller.specs.declared.sides.Spans.{Spans}
 use Rattle.controller.specs.Handling.{cabled, acted}
 use Rattle.controller.specs.Closing.{is_tick}
 use Rattle.promises.specs.History.{Call, after}

@@ -19,10 +19,11 @@ use Rattle.stations.specs.declared.station.Report.{Report}
 use Rattle.stations.specs.Stations.{present, sequence_of}
 use Rattle.stations.specs.Hearing.{Placed, distance, placed_known, placed_new, placed_by, placed}
 use Rattle.stations.proofs.Lists.{chosen}
-use Rattle.controller.specs.declared.reading.Reading.{Reading}
-use Rattle.controller.specs.declared.reading.Reading.TheVariants.{Refused, Tick, Link, Keepalive, Operator, Heard, Block}
+use Rattle.controller.specs.Reading.{Reading}
+use Rattle.controller.specs.Reading.{Refused, Tick, Link, Keepalive, Operator, Heard, Block}
 use Rattle.controller.specs.Reading.{block_of, reading, many_ticks}
-use Rattle.controller.specs.State.{Spans, State, span_of}
+use Rattle.controller.specs.State.{State, span_of}
+use Rattle.controller.specs.declared.sides.Spans.{Spans}
 use Rattle.controller.specs.Handling.{cabled, acted, gives, hearing, taking, learning, judged}
 use Rattle.controller.specs.Closing.{is_tick}
 use Rattle.controller.specs.Record.{Outcome, refuses, unless_refused, outcome_of, outcome, outcomes}
@@ -169,4 +170,4 @@ module _ {n : Node} {b old new : List ℕ} {r : Answer} (h : Recorded n b old ne
   recorded_block-down k m a is result =
       let same : outcomes (state_of n) b (length old) ≡ refuses 21 (state_of n) =
       block-down (state_of n) b (length old) k.state m a is (sym (recorded_result h) ∙ result) in
-      (h.is ∙ ap (answer_of n) same ∙ refused_same n 21 k, h.content ∙ ap (λ (o : Outcome). over o.report old) same ∙ sym (over_none old))
+      (h.is ∙ ap (answer_of n) same ∙ refused_same n 21, h.content ∙ ap (λ (o : Outcome). over o.report old) same ∙ sym (over_none old))

@@ -13,7 +13,7 @@ use Rattle.settings.specs.Reading.{fields_of, full_in, settings_in}
 use Rattle.spans.specs.Codes.{degraded, failed, MS, SF, SD, IDLE, none}
 use Rattle.spans.specs.HoldOff.{LinkDecides}
 use Rattle.blocks.specs.Types.{knows}
-use Rattle.controller.specs.declared.reading.Reading.TheVariants.{Tick, Link, Operator}
+use Rattle.controller.specs.Reading.{Tick, Link, Operator}
 use Rattle.controller.specs.Reading.{block_of, reading}
 use Rattle.controller.specs.State.{Choice, State, started}
 use Rattle.controller.specs.Node.{choice_of, west_request}

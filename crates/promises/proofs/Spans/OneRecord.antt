@@ -12,14 +12,15 @@ use Rattle.blocks.specs.Meaning.{meaning}
 use Rattle.stations.specs.declared.station.Report.{Report}
 use Rattle.stations.specs.Hearing.{Placed}
 use Rattle.stations.proofs.Lists.{chosen}
-use Rattle.controller.specs.declared.reading.Reading.{Reading}
-use Rattle.controller.specs.declared.reading.Reading.TheVariants.{Refused, Tick, Link, Keepalive, Operator, Heard, Block}
+use Rattle.controller.specs.Reading.{Reading}
+use Rattle.controller.specs.Reading.{Refused, Tick, Link, Keepalive, Operator, Heard, Block}
 use Rattle.controller.specs.Reading.{block_of}
-use Rattle.controller.specs.State.{Choice, Spans, State, span_of, with_span}
+use Rattle.controller.specs.State.{Choice, State, span_of, with_span}
+use Rattle.controller.specs.declared.sides.Spans.{Spans}
 use Rattle.controller.specs.Handling.{cabled, acted, gives, learning, judged}
 use Rattle.controller.specs.Closing.{is_tick, settled}
 use Rattle.controller.specs.Record.{Outcome, refusal, closed, unless_refused, outcome_of, outcome}
-use Rattle.controller.proofs.Packing.{settled-none}
+use Rattle.controller.proofs.Settling.{settled-none}
 use Rattle.controller.proofs.Handing.{hearing-taken}
 use Rattle.promises.specs.History.{Call, after}
 use Rattle.promises.specs.Spans.{leaves_table, read_as, span_after}

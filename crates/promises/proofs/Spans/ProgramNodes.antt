@@ -13,8 +13,8 @@ use Rattle.spans.specs.declared.span.Span.{Span}
 use Rattle.spans.specs.Codes.{good, failed, FS, SF, SD, IDLE, none, listed, higher}
 use Rattle.spans.specs.Kept.{SpanFair}
 use Rattle.spans.specs.HoldOff.{HeldOff, LinkDecides}
-use Rattle.controller.specs.declared.reading.Reading.{Reading}
-use Rattle.controller.specs.declared.reading.Reading.TheVariants.{Tick, Link, Operator}
+use Rattle.controller.specs.Reading.{Reading}
+use Rattle.controller.specs.Reading.{Tick, Link, Operator}
 use Rattle.controller.specs.Reading.{count_in}
 use Rattle.controller.specs.Closing.{is_tick}
 use Rattle.controller.specs.Node.{Started, choice_of, state_of}

@@ -12,9 +12,10 @@ use Rattle.stations.specs.Stations.{sifted, unpurged, purged}
 use Rattle.stations.specs.Hearing.{Placed}
 use Rattle.stations.proofs.Lists.{chosen}
 use Rattle.stations.proofs.Sifting.{sifted-all, sifted_same}
-use Rattle.controller.specs.declared.reading.Reading.{Reading}
+use Rattle.controller.specs.Reading.{Reading}
 use Rattle.controller.specs.Reading.{block_of, reading}
-use Rattle.controller.specs.State.{Choice, Spans, State, started}
+use Rattle.controller.specs.State.{Choice, State, started}
+use Rattle.controller.specs.declared.sides.Spans.{Spans}
 use Rattle.controller.specs.Handling.{acted, judged}
 use Rattle.controller.specs.Closing.{settled, purged_if, swept, is_tick}
 use Rattle.controller.specs.Record.{Outcome, refusal, refuses, closed, outcome_of, outcome}

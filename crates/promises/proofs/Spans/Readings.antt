@@ -12,8 +12,8 @@ use Rattle.wire.specs.Head.{kind_of, body_of, broken}
 use Rattle.spans.specs.Codes.{listed}
 use Rattle.stations.specs.Station.{farthest}
 use Rattle.stations.proofs.Lists.{chosen}
-use Rattle.controller.specs.declared.reading.Reading.{Reading}
-use Rattle.controller.specs.declared.reading.Reading.TheVariants.{Refused, Tick, Link, Keepalive, Operator, Heard, Block}
+use Rattle.controller.specs.Reading.{Reading}
+use Rattle.controller.specs.Reading.{Refused, Tick, Link, Keepalive, Operator, Heard, Block}
 use Rattle.controller.specs.Reading.{link_fits, link_in, keepalive_fits, keepalive_in, operator_fits, operator_in, report_fits, report_in, block_fits, block_in, count_in, ticks_fit, ticks_in, kind_in, read_in, reading}
 
 abbrev pub Sided : Reading → Type 0

@@ -15,9 +15,10 @@ use Rattle.spans.specs.Requests.{automatic, waited}
 use Rattle.spans.specs.Kept.{SpanFair}
 use Rattle.spans.proofs.Waiting.{waited-automatic}
 use Rattle.spans.proofs.Rising.{tick_rises}
-use Rattle.controller.specs.declared.reading.Reading.{Reading}
-use Rattle.controller.specs.declared.reading.Reading.TheVariants.{Tick}
-use Rattle.controller.specs.State.{Choice, Spans, State, span_of, started}
+use Rattle.controller.specs.Reading.{Reading}
+use Rattle.controller.specs.Reading.{Tick}
+use Rattle.controller.specs.State.{Choice, State, span_of, started}
+use Rattle.controller.specs.declared.sides.Spans.{Spans}
 use Rattle.controller.specs.Handling.{acted}
 use Rattle.controller.specs.Kept.{StateKept}
 use Rattle.controller.proofs.Holding.{ticking_kept}

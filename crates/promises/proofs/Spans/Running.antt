@@ -11,9 +11,10 @@ use Rattle.spans.specs.Records.{linked, ticked, alive, asked}
 use Rattle.spans.specs.Requests.{automatic, waited}
 use Rattle.spans.proofs.Fair.{linked_wtr}
 use Rattle.spans.proofs.Waiting.{waited-automatic, waited_same}
-use Rattle.controller.specs.declared.reading.Reading.{Reading}
-use Rattle.controller.specs.declared.reading.Reading.TheVariants.{Refused, Tick, Link, Keepalive, Operator, Heard, Block}
-use Rattle.controller.specs.State.{Choice, Spans, State, span_of}
+use Rattle.controller.specs.Reading.{Reading}
+use Rattle.controller.specs.Reading.{Refused, Tick, Link, Keepalive, Operator, Heard, Block}
+use Rattle.controller.specs.State.{Choice, State, span_of}
+use Rattle.controller.specs.declared.sides.Spans.{Spans}
 use Rattle.controller.specs.Handling.{acted}
 use Rattle.controller.specs.Closing.{is_tick}
 use Rattle.promises.specs.History.{Call, after, Always}

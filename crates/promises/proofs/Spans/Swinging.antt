@@ -19,8 +19,8 @@ use Rattle.spans.specs.HoldOff.{HeldOff, LinkDecides}
 use Rattle.spans.proofs.HoldOff.{held-ticked, held-swung, held_same, held-over}
 use Rattle.spans.proofs.Switching.{Switching, switched, switching_first, switching_linked, switching_ticked, switching_same}
 use Rattle.wire.proofs.Truths.{neither}
-use Rattle.controller.specs.declared.reading.Reading.{Reading}
-use Rattle.controller.specs.declared.reading.Reading.TheVariants.{Refused, Tick, Link, Keepalive, Operator, Heard, Block}
+use Rattle.controller.specs.Reading.{Reading}
+use Rattle.controller.specs.Reading.{Refused, Tick, Link, Keepalive, Operator, Heard, Block}
 use Rattle.controller.specs.State.{Choice, State, started}
 use Rattle.promises.specs.History.{Call, after, AllBytes}
 use Rattle.promises.specs.Spans.{own_in, ticks_in, read_as, is_link, some_taken, ticks_taken, link_taken, span_after, request_on, automatic_on}

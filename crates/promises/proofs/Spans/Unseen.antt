@@ -12,14 +12,15 @@ use Rattle.spans.specs.Requests.{automatic, down, waited}
 use Rattle.spans.proofs.Beneath.{waited-asked, linked-asked}
 use Rattle.stations.specs.declared.station.Station.{Station}
 use Rattle.stations.specs.Hearing.{Placed}
-use Rattle.controller.specs.declared.reading.Reading.{Reading}
-use Rattle.controller.specs.declared.reading.Reading.TheVariants.{Refused, Tick, Link, Keepalive, Operator, Heard, Block}
-use Rattle.controller.specs.State.{Choice, Spans, State, span_of, with_span}
+use Rattle.controller.specs.Reading.{Reading}
+use Rattle.controller.specs.Reading.{Refused, Tick, Link, Keepalive, Operator, Heard, Block}
+use Rattle.controller.specs.State.{Choice, State, span_of, with_span}
+use Rattle.controller.specs.declared.sides.Spans.{Spans}
 use Rattle.controller.specs.Handling.{cabled, acted, hearing, learning, judged}
 use Rattle.controller.specs.Closing.{settled, swept, is_tick}
 use Rattle.controller.specs.Record.{Outcome, refusal, refuses, closed, outcome_of}
 use Rattle.controller.proofs.Holding.{outcome_of_choice}
-use Rattle.controller.proofs.Packing.{settled-none}
+use Rattle.controller.proofs.Settling.{settled-none}
 use Rattle.promises.specs.Spans.{Swept, asked_on, SameBeneath}
 use Rattle.promises.proofs.Spans.OneRecord.{spans_of_lem}
 

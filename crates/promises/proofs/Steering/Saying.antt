@@ -38,9 +38,10 @@ use Rattle.stations.proofs.Renewing.{renewed_each, renewed-all}
 use Rattle.stations.proofs.Inserting.{Nobody, inserted_each, unknown_nobody, displaced_nobody}
 use Rattle.stations.proofs.Placing.{placed-ends}
 use Rattle.ways.specs.Walk.{Ends}
-use Rattle.controller.specs.declared.reading.Reading.{Reading}
-use Rattle.controller.specs.declared.reading.Reading.TheVariants.{Refused, Tick, Link, Keepalive, Operator, Heard, Block}
-use Rattle.controller.specs.State.{Choice, Spans, State, span_of}
+use Rattle.controller.specs.Reading.{Reading}
+use Rattle.controller.specs.Reading.{Refused, Tick, Link, Keepalive, Operator, Heard, Block}
+use Rattle.controller.specs.State.{Choice, State, span_of}
+use Rattle.controller.specs.declared.sides.Spans.{Spans}
 use Rattle.controller.specs.Handling.{gives, acted, hearing, taking, learning, judged}
 use Rattle.controller.specs.Closing.{settled, purged_if, swept, is_tick}
 use Rattle.controller.specs.Record.{Outcome, refusal, refuses, closed, outcome_of}

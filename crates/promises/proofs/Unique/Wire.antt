@@ -4,6 +4,10 @@ use mathlib.Core.Path.{refl, sym, ◌∙◌}
 use mathlib.Core.List.{List}
 use Rattle.wire.specs.contracts as wire_contract
 use Rattle.wire.proofs as wire
+use Rattle.wire.specs.contracts.results.U8FromRefusal as RefusalNumber_contract
+use Rattle.wire.proofs.results.U8FromRefusal as RefusalNumber
+use Rattle.wire.specs.contracts.results.U8FromTaken as TakenNumber_contract
+use Rattle.wire.proofs.results.U8FromTaken as TakenNumber
 use Rattle.promises.specs.Unique.{Fixes, FixesPart}
 
 pub byte_at_unique : Fixes wire_contract.byte_at.ended wire.byte_at.Reads.ensures wire.byte_at.Reads.Post
@@ -41,3 +45,12 @@ pub put_report_content_unique :
     FixesPart wire_contract.put_report.ended (λ κs. List ℕ) (λ κs x e. e.0.now)
     wire.put_report.Reads.ensures wire.put_report.Reads.Post
 put_report_content_unique = (λ w κs a x e. refl, λ κs a x y e f p q. p.content ∙ sym q.content)
+
+pub number_unique : Fixes wire_contract.number.ended wire.number.Reads.ensures wire.number.Reads.Post
+number_unique = (λ w κs a x e. refl, λ κs a x y e f p q. p ∙ sym q)
+
+pub refusal_number_unique : Fixes RefusalNumber_contract.from.ended RefusalNumber.from.Reads.ensures RefusalNumber.from.Reads.Post
+refusal_number_unique = (λ w κs a x e. refl, λ κs a x y e f p q. p ∙ sym q)
+
+pub taken_number_unique : Fixes TakenNumber_contract.from.ended TakenNumber.from.Reads.ensures TakenNumber.from.Reads.Post
+taken_number_unique = (λ w κs a x e. refl, λ κs a x y e f p q. p ∙ sym q)

@@ -19,7 +19,7 @@ use Rattle.blocks.specs.Meaning.{known, has, sound, behind, value}
 use Rattle.ways.specs.declared.choice.Steering.{Steering}
 use Rattle.ways.specs.Choice.{number}
 use Rattle.controller.specs.Node.{Started, state_of, started_with, reports_in, steering, asked}
-use Rattle.controller.specs.declared.ask.Shown.{Shown}
+use Rattle.controller.specs.Node.{Shown}
 use Rattle.controller.specs.State.{State}
 use Rattle.controller.specs.Record.{Outcome, refusal}
 use Rattle.controller.specs.Promise.{Begun}

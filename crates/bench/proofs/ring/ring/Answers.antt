@@ -1,29 +1,29 @@
--- After k turns the first k stations were heard. Assumes nothing.
-use mathlib.Core.Path.{◌≡◌, ◌∙◌, ap}
-use native.Mathlib.Omega.{arith}
-use native.Mathlib.Numerals.{add-one}
-use Rattle.controller.specs.Node.{Started}
-use Rattle.bench.specs.Ring.{ring_to, ring_of}
+-- The stations below k were heard, and station k is heard next. Assumes nothing.
+use Rattle.std.proofs.Common.{◌≡◌, ◌≤◌, ℕ, zero, suc, ◌-◌, ◌∙◌, ap, arith}
+use Rattle.controller.specs.Node.{Node}
+use Rattle.bench.specs.Ring.{joined, ring_to, ring_of}
 use Rattle.bench.proofs.ring.ring.Goals as goal
+
+heard : (stations k j : ℕ) {n m : Node}
+    → 1 ≤ k → j ≡ k → n ≡ ring_to stations (k - 1) → m ≡ joined stations k n → m ≡ ring_to stations j
+unfolding ring_to
+heard stations zero j h e before now = absurd (omega arith)
+heard stations (suc k) j h e before now =
+    let p : suc k - 1 ≡ k = omega arith in
+    rw (e, now, before, p)
 
 pub loop-k-init : goal.loop-k-init
 unfolding ring_to
-loop-k-init c = (omega arith, record { same = ap (λ (x : Started). x.node) c.start.ensures.is; kept = c.start.ensures.kept })
-
-pub join-requires : goal.join-requires
-join-requires c =
-    (c.loop-k.invariant.1.kept, omega arith, omega arith, c.requires)
-
-pub loop-k-smaller : goal.loop-k-smaller
-loop-k-smaller c =
-    omega (arith, c.loop-k-test.true)
+loop-k-init c = (ap (λ r. r.node) c.start.ensures.is, omega arith)
 
 pub loop-k-preserved : goal.loop-k-preserved
-unfolding ring_to
 loop-k-preserved c =
-    (omega arith, record { same = c.join.ensures.same ∙ rw (add-one, c.loop-k.invariant.1.same); kept = c.join.ensures.kept })
+    (heard _ _ _ c.loop-k.auto.k (omega arith) c.loop-k.invariant.0 c.join.ensures, omega arith)
 
 pub returns : goal.returns
 unfolding ring_of
-returns c =
-    let e : c.loop-k.k ≡ c.args.stations = omega arith in rw e at c.loop-k.invariant.1
+returns c = c.loop-k.invariant.0 ∙ ap (ring_to c.args.size.stations) (omega arith)
+
+pub returns-2 : goal.returns-2
+unfolding ring_of
+returns-2 c = heard _ _ _ c.loop-k.auto.k (omega arith) c.loop-k.invariant.0 c.join.ensures

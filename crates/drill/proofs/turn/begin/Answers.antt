@@ -1,19 +1,15 @@
--- Each arm is a case of what was read. Assumes nothing.
-use Rattle.drill.proofs.Stepping.{front_length, nothing-start, cut-start, whole_start}
+-- A start of what was read: taken, or refused with its number. Assumes nothing.
+use mathlib.Core.Path.{refl, sym}
+use Rattle.drill.specs.Turns.{begun_with}
+use Rattle.drill.proofs.Stepping.{begun_by, begun_refused}
 use Rattle.drill.proofs.turn.begin.Goals as goal
 
-pub slice_bounds-start-end-in-Whole : goal.slice_bounds-start-end-in-Whole
-slice_bounds-start-end-in-Whole c =
-    front_length _ c.args.buf.now c.in-Whole.is c.requires
+pub returns-in-Ok : goal.returns-in-Ok
+unfolding begun_with
+returns-in-Ok c =
+    rw (c.new.ensures, begun_by c.args.read _ c.unwrap_or.ensures c.unwrap_or-settings.ensures refl c.start.ensures.is, c.in-Ok.is)
 
-pub returns-in-Nothing : goal.returns-in-Nothing
-returns-in-Nothing c =
-    nothing-start c.args.buf.now c.in-Nothing.is c.start.ensures c.tell_start.ensures
-
-pub returns-in-Cut : goal.returns-in-Cut
-returns-in-Cut c =
-    cut-start c.args.buf.now c.in-Cut.is c.start-in-Cut.ensures c.tell_start-in-Cut.ensures
-
-pub returns-in-Whole : goal.returns-in-Whole
-returns-in-Whole c =
-    whole_start c.args.buf.now _ c.in-Whole.is c.start-in-Whole.ensures c.tell_start-in-Whole.ensures
+pub returns-in-Err : goal.returns-in-Err
+returns-in-Err c =
+    rw (c.settings.ensures, begun_by c.args.read _ c.unwrap_or.ensures c.unwrap_or-settings.ensures refl c.start.ensures.is, c.in-Err.is)
+    (sym (begun_refused _ _))
