@@ -1,10 +1,11 @@
 // A node: its settings, its two spans, its pacer and its stations.
-ghost use Rattle.std.specs.Prelude.{◌≡◌};
+ghost use Rattle.std.specs.Prelude.{◌≡◌, ⊤};
 
 use crate::sides::Spans;
 use pacer::Pacer;
 use settings::Settings;
 use stations::Table;
+use std::alloc::AllocError;
 use std::marker::Model;
 use wire::Refusal;
 
@@ -26,6 +27,22 @@ impl Model for Node {
     ghost view = { λ n. record { settings = n.settings; spans = n.spans; stations = n.table; pacer = n.pacer } };
 
     ghost invariant = { λ n. Kept (record { settings = n.settings; spans = n.spans; stations = n.table; pacer = n.pacer }) };
+}
+
+// A copy of the node as it is, to keep or to go back to; it never fails.
+impl Clone for Node {
+    ghost is_clone = { λ n m. m ≡ n };
+
+    ghost is_infallible = { λ _. ⊤ };
+
+    fn clone(&self) -> Result<Node, AllocError> {
+        Ok(Node {
+            settings: self.settings,
+            spans: self.spans,
+            pacer: self.pacer,
+            table: self.table.clone()?,
+        })
+    }
 }
 
 impl Node {

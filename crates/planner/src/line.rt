@@ -1,4 +1,8 @@
 // The lines of the program.
+ghost use Rattle.std.specs.Prelude.{◌≡◌};
+ghost use Rattle.bandwidth.specs.Free.{free_as};
+ghost use Rattle.planner.specs.Question.{row_as};
+
 use bandwidth::{Free, Unanswered};
 use wire::Refusal;
 
@@ -18,25 +22,48 @@ fn print_signed(x: i32) {
     print_number(u64::from(x.unsigned_abs()), b" ");
 }
 
-// Result, address, what is left of each ringlet, 1 if there is the defect else 0.
-pub(crate) fn print_answer(answer: Result<Free, Unanswered>) {
+// The numbers of a line; what is not used is 0.
+#[derive(Clone, Copy, Debug, PartialEq, Eq)]
+struct Row {
+    address: u64,
+    ringlet0: i32,
+    ringlet1: i32,
+    result: u8,
+    excess: bool,
+}
+
+fn row_of(answer: Result<Free, Unanswered>) -> Row
+    ensures { row_as result ≡ free_as answer }
+{
     match answer {
-        Ok(free) => {
-            io::write_all(OUTPUT, b"0 0 ");
-            print_signed(free.ringlet0);
-            print_signed(free.ringlet1);
-            print_number(u64::from(free.is_excess()), b"\n");
-        }
-        Err(unanswered) => {
-            print_number(u64::from(u8::from(unanswered)), b" ");
-            let address = match unanswered {
+        Ok(free) => Row {
+            address: 0,
+            ringlet0: free.ringlet0,
+            ringlet1: free.ringlet1,
+            result: 0,
+            excess: free.is_excess(),
+        },
+        Err(unanswered) => Row {
+            address: match unanswered {
                 Unanswered::Behind(address) => address,
                 Unanswered::RateTooHigh | Unanswered::LevelTooLow => 0,
-            };
-            print_number(address, b" ");
-            io::write_all(OUTPUT, b"0 0 0\n");
-        }
+            },
+            ringlet0: 0,
+            ringlet1: 0,
+            result: unanswered.into(),
+            excess: false,
+        },
     }
+}
+
+// Result, address, what is left of each ringlet, 1 if there is the defect else 0.
+pub(crate) fn print_answer(answer: Result<Free, Unanswered>) {
+    let row = row_of(answer);
+    print_number(u64::from(row.result), b" ");
+    print_number(row.address, b" ");
+    print_signed(row.ringlet0);
+    print_signed(row.ringlet1);
+    print_number(u64::from(row.excess), b"\n");
 }
 
 // A record that was cut or had a wrong length: 2.

@@ -22,16 +22,18 @@ fn main() {
 
 // One record after the other, as many as 64 bits count: a loop without a bound would have no proof that it ends.
 fn run(node: &mut Node) {
+    // Room for the reports of any record, one for all: setting it to zero for each would cost more than the record.
+    let mut out = [0; 7000];
     for _ in 0..u64::MAX {
-        if next(node).is_break() {
+        if next(node, &mut out).is_break() {
             return;
         }
     }
 }
 
 // A record read, and taken or answered; whether there may be another.
-fn next(node: &mut Node) -> ControlFlow<()> {
+fn next(node: &mut Node, out: &mut [u8]) -> ControlFlow<()> {
     let mut buf = [0; 1035];
     let read = input::read_record(&mut buf);
-    turn::take_turn(node, read)
+    turn::take_turn(node, read, out)
 }

@@ -44,18 +44,21 @@ fn answer(node: &Node, body: &[u8]) -> Result<Free, Unanswered>
     bandwidth::free_bandwidth(node, rate, own0, own1)
 }
 
-// One whole record: a question, or one for the controller.
-fn step(node: &mut Node, bytes: &[u8]) {
+// One whole record: a question, or one for the controller, whose reports go nowhere.
+fn step(node: &mut Node, bytes: &[u8], out: &mut [u8]) {
     if wire::word_at(bytes, 2) == QUESTION {
         line::print_answer(answer(node, wire::body(bytes)));
     } else {
-        let mut out = [0; 7000];
-        let _ = node.take_record(bytes, &mut out);
+        let _ = node.take_record(bytes, out);
     }
 }
 
 // What was read: a cut record and the end of the input end the program.
-pub(crate) fn take_turn(node: &mut Node, read: Result<Option<&[u8]>, Cut>) -> ControlFlow<()> {
+pub(crate) fn take_turn(
+    node: &mut Node,
+    read: Result<Option<&[u8]>, Cut>,
+    out: &mut [u8],
+) -> ControlFlow<()> {
     match read {
         Ok(None) => ControlFlow::Break(()),
         Err(Cut) => {
@@ -63,7 +66,7 @@ pub(crate) fn take_turn(node: &mut Node, read: Result<Option<&[u8]>, Cut>) -> Co
             ControlFlow::Break(())
         }
         Ok(Some(bytes)) => {
-            step(node, bytes);
+            step(node, bytes, out);
             ControlFlow::Continue(())
         }
     }

@@ -1,5 +1,6 @@
 pub mod Lists
 pub mod Hops
+pub mod Shifting
 pub mod Sifting
 pub mod Renewing
 pub mod Inserting

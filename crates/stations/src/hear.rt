@@ -7,6 +7,7 @@ ghost use Rattle.stations.specs.Hearing.{distance, left, placed_any, placed_new,
 ghost use Rattle.stations.specs.Steps.{at_hop, Alone};
 ghost use Rattle.stations.specs.Table.{blank, found};
 
+use crate::shift::{insert_at, remove_at};
 use crate::station::{Report, Station, distance};
 use crate::table::{Places, Table, rank};
 use wire::{Refusal, Taken};
@@ -36,7 +37,7 @@ fn displace_others(stations: &mut Places, other: Option<usize>, p: Report)
         if without.is_somewhere() {
             stations.as_mut_slice()[at] = without;
         } else {
-            stations.remove(at);
+            remove_at(stations, at);
         }
     }
 }
@@ -53,7 +54,7 @@ impl Table {
         let there = holder(self.stations(), p);
         displace_others(&mut self.stations, there, p);
         let at = rank(self.stations.as_slice(), p.address);
-        self.stations.insert(at, Station::join(p));
+        insert_at(&mut self.stations, at, Station::join(p));
     }
 
     // A known station: an old report changes nothing; else the others at its hop give way.

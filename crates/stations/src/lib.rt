@@ -6,6 +6,7 @@
 mod age;
 mod hear;
 mod purge;
+mod shift;
 mod station;
 mod table;
 

@@ -6,8 +6,10 @@ use Rattle.stations.specs.declared.station.Station.{Station}
 use Rattle.controller.specs.State.{Node as Held}
 use Rattle.controller.specs.contracts.node.Node as Node_contract
 use Rattle.controller.proofs.node.Node as Node
+use Rattle.controller.specs.contracts.node.NodeClone as NodeClone_contract
+use Rattle.controller.proofs.node.NodeClone as NodeClone
 use Rattle.promises.specs.Unique.{Fixes, FixesPart}
-use Rattle.promises.proofs.Unique.Laws.{two_facts, starts_told_apart, records_told_apart, shown_told_apart}
+use Rattle.promises.proofs.Unique.Laws.{two_facts, copies_alike, starts_told_apart, records_told_apart, shown_told_apart}
 
 pub steer_unique : Fixes Node_contract.steer.ended Node.steer.Reads.ensures Node.steer.Reads.Post
 steer_unique = (λ w κs a x e. refl, λ κs a x y e f p q. p ∙ sym q)
@@ -38,6 +40,9 @@ station_count_unique = (λ w κs a x e. refl, λ κs a x y e f p q. p ∙ sym q)
 
 pub new_unique : Fixes Node_contract.new.ended Node.new.Reads.ensures Node.new.Reads.Post
 new_unique = (λ w κs a x e. refl, λ κs a x y e f p q. p ∙ sym q)
+
+pub node-clone_unique : Fixes NodeClone_contract.clone.ended NodeClone.clone.Reads.ensures NodeClone.clone.Reads.Post
+node-clone_unique = (λ w κs a x e. refl, λ κs a x y e f p q. copies_alike a.0.now x y p q)
 
 pub start_unique : Fixes Node_contract.start.ended Node.start.Reads.ensures Node.start.Reads.Post
 start_unique = (λ w κs a x e. refl, λ κs a x y e f p q. (starts_told_apart e.0.now f.0.now x y (p.is ∙ sym q.is)).1)

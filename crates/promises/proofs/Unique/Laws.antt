@@ -6,7 +6,7 @@ use native.Mathlib.Omega.{arith}
 use base.Logic.{sep, ent, emp, both⊢, id⊢, via, fst∗, snd∗, emp∗, mono_l}
 use contract.Monad.{fact, fact_i, fact_use}
 use borrow.Fn.World.{World}
-use Rattle.std.specs.Prelude.{◌≤◌, Bool, true, false, cond, eqb, Option, Some, None, Result, Ok, Err}
+use Rattle.std.specs.Prelude.{◌≤◌, Bool, true, false, cond, eqb, Option, Some, None, Result, Ok, Err, MatchResult, ⊤}
 use Rattle.std.proofs.Math.Option.{some}
 use Rattle.wire.specs.declared.results.Refusal.{Refusal}
 use Rattle.wire.specs.declared.results.Taken.{Taken}
@@ -30,6 +30,12 @@ two_facts w φ ψ = both⊢ w.𝓤 one two
     two = fact_use w.𝓤 (φ × ψ) (id⊢ w.𝓤 (fact w.𝓤 (φ × ψ))) (λ p.
         via w.𝓤 (fact w.𝓤 ψ) (fact_i w.𝓤 ψ (fact w.𝓤 (φ × ψ)) p.1)
         (via w.𝓤 (sep w.𝓤 (emp w.𝓤) (fact w.𝓤 ψ)) (emp∗ w.𝓤 (fact w.𝓤 ψ)) (mono_l w.𝓤 (fact w.𝓤 ψ) (fact_i w.𝓤 φ (emp w.𝓤) p.0))))
+
+-- A copy that cannot fail is of what was copied.
+pub copies_alike : {A E : Type 0} (t : A) (x y : Result A E) → MatchResult x (λ u. u ≡ t) (λ r. ¬ ⊤) → MatchResult y (λ u. u ≡ t) (λ r. ¬ ⊤) → x ≡ y
+copies_alike t (Ok u) (Ok v) p q = ap Ok (p ∙ sym q)
+copies_alike t (Ok u) (Err r) p q = absurd (q tt)
+copies_alike t (Err r) y p q = absurd (p tt)
 
 -- Stations and answer of a call on the table.
 pub lefts_told_apart : (l m : List Station) (x y : Result Taken Refusal) → left l x ≡ left m y → (l ≡ m) × (x ≡ y)

@@ -21,6 +21,7 @@ use Rattle.settings.specs.contracts.units.Count as Count_contract
 use Rattle.settings.proofs.units.Count as Count
 use Rattle.settings.specs.Ticks.{in_ticks}
 use Rattle.promises.specs.Unique.{Fixes}
+use Rattle.promises.proofs.Unique.Laws.{two_facts}
 
 pub settings-default_for_unique : Fixes Settings_contract.default_for.ended Settings.default_for.Reads.ensures Settings.default_for.Reads.Post
 settings-default_for_unique = (λ w κs a x e. refl, λ κs a x y e f p q. p ∙ sym q)
@@ -32,7 +33,7 @@ pub settings-ticks_unique : Fixes Settings_contract.ticks.ended Settings.ticks.R
 settings-ticks_unique = (λ w κs a x e. refl, λ κs a x y e f p q. p ∙ sym q)
 
 pub read_settings_unique : Fixes settings_contract.read_settings.ended settings.read_settings.Reads.ensures settings.read_settings.Reads.Post
-read_settings_unique = (λ w κs a x e. refl, λ κs a x y e f p q. p ∙ sym q)
+read_settings_unique = (λ w κs a x e. two_facts w _ _, λ κs a x y e f p q. p.0 ∙ sym q.0)
 
 -- Of every unit whose counts become one number each.
 pub count-ticks_unique : (T : RattleType) (ms : ℕ) (L : Laws T) (F : Fits w16 ms) (G : Ghosts T.Denot ℕ) (D : Dict)

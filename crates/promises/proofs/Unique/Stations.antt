@@ -8,8 +8,10 @@ use Rattle.stations.specs.contracts.station.Station as Station_contract
 use Rattle.stations.proofs.station.Station as Station
 use Rattle.stations.specs.contracts.table.Table as Table_contract
 use Rattle.stations.proofs.table.Table as Table
+use Rattle.stations.specs.contracts.table.TableClone as TableClone_contract
+use Rattle.stations.proofs.table.TableClone as TableClone
 use Rattle.promises.specs.Unique.{Fixes, FixesPart}
-use Rattle.promises.proofs.Unique.Laws.{two_facts, lefts_told_apart}
+use Rattle.promises.proofs.Unique.Laws.{two_facts, copies_alike, lefts_told_apart}
 
 pub table_new_unique : Fixes Table_contract.new.ended Table.new.Reads.ensures Table.new.Reads.Post
 table_new_unique = (λ w κs a x e. refl, λ κs a x y e f p q. p ∙ sym q)
@@ -21,6 +23,9 @@ pub clear_table_stations_unique :
     FixesPart Table_contract.clear.ended (λ κs. List Station) (λ κs x e. e.0.now)
     Table.clear.Reads.ensures Table.clear.Reads.Post
 clear_table_stations_unique = (λ w κs a x e. refl, λ κs a x y e f p q. p ∙ sym q)
+
+pub table-clone_unique : Fixes TableClone_contract.clone.ended TableClone.clone.Reads.ensures TableClone.clone.Reads.Post
+table-clone_unique = (λ w κs a x e. refl, λ κs a x y e f p q. copies_alike a.0.now x y p q)
 
 -- The contract speaks of what the answer shows, not of where it lies.
 pub table_stations_unique :

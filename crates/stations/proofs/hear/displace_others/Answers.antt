@@ -20,7 +20,7 @@ returns-then-is_somewhere c =
 pub returns-else-is_somewhere : goal.returns-else-is_somewhere
 unfolding blank
 returns-else-is_somewhere c =
-    c.remove.ensures.items
+    c.remove_at.ensures
     ∙ displaced_remove c.args.p c.args.stations.now.items c.in-Some.at (rw c.in-Some.is at c.requires)
     (rw c.as_slice.ensures.value at (sym c.is_other.ensures ∙ c.if-is_other.true))
     (rw (c.with_hop-without.ensures, c.as_slice.ensures.value) at (sym c.is_somewhere.ensures ∙ c.if-is_somewhere.false))

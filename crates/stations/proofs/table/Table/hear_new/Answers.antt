@@ -24,17 +24,17 @@ rank-at-requires c =
     let view : c.self.inside.stations.items ≡ c.args.self.now = c.self.view_is in
     rw (c.as_slice.ensures.value, c.displace_others.ensures, view) (displaced_ascending c.args.p c.args.self.now c.stations.ensures.kept.ascending)
 
-pub insert-requires : goal.insert-requires
-insert-requires c =
+pub insert_at-requires : goal.insert_at-requires
+insert_at-requires c =
     let view : c.self.inside.stations.items ≡ c.args.self.now = c.self.view_is in
     let few = rank-low c.args.p.address (displaced c.args.p c.args.self.now) in
     rw (c.rank-at.ensures, c.as_slice.ensures.value, c.displace_others.ensures, view)
-    (omega arith, (few, room c.stations.ensures.kept c.args.p c.requires.hop (found_none c.args.p.address c.args.self.now c.requires.unknown).sequence))
+    (record { place = few; room = room c.stations.ensures.kept c.args.p c.requires.hop (found_none c.args.p.address c.args.self.now c.requires.unknown).sequence })
 
-joined : (c : goal.After-insert) → c.insert.new.self.items ≡ inserted (newcomer c.args.p) (displaced c.args.p c.args.self.now)
+joined : (c : goal.After-insert_at) → c.insert_at.new.stations.items ≡ inserted (newcomer c.args.p) (displaced c.args.p c.args.self.now)
 joined c =
     let view : c.self.inside.stations.items ≡ c.args.self.now = c.self.view_is in
-    c.insert.ensures.items
+    c.insert_at.ensures
     ∙ rw (c.rank-at.ensures, c.join.ensures, c.as_slice.ensures.value, c.displace_others.ensures, view)
     (insert_is (newcomer c.args.p) (displaced c.args.p c.args.self.now))
 
