@@ -10,7 +10,7 @@ loop-i-init c = insert_end c.args.places.now c.args.s
 pub loop-i-preserved : goal.loop-i-preserved
 loop-i-preserved c =
     rw (c.replace-moved.ensures.after, c.replace-moved.ensures.value)
-    (handed_down c.loop-i.places c.loop-i.i c.loop-i.moved _ c.loop-i-test.true (omega (arith, c.loop-i.auto.places, c.loop-i.auto.i)) ∙ c.loop-i.invariant)
+    (handed_down c.loop-i.places c.loop-i.i c.loop-i.moved _ (omega (arith, c.loop-i-test.true)) (omega (arith, c.loop-i.auto.places, c.loop-i.auto.i)) ∙ c.loop-i.invariant)
 
 pub returns : goal.returns
-returns c = handed_out c.loop-i.places c.loop-i.i c.loop-i.moved c.loop-i-test.false ∙ c.loop-i.invariant
+returns c = handed_out c.loop-i.places c.loop-i.i c.loop-i.moved (omega (arith, c.loop-i-test.false)) ∙ c.loop-i.invariant
